@@ -1,0 +1,165 @@
+// Two timers and one decision, the same for every kind of sensor (document 01, "Frames" and "One tick").
+// Nothing here knows what a sensor measures: a kind says whether it has a cause of its own, and the gate does the rest.
+ghost use Prim.Native.Nat.{_*_, _-_, max};
+ghost use Rattle.gate.specs.Gate.{after, decided};
+ghost use Rattle.gate.specs.Timers.{deadTime, due, fallen, fallenReport, reportTime, started, startedReport};
+ghost use mathlib.Core.Path.{_≡_};
+
+// The report timer. Left(0) is due, and stays due.
+pub enum Report {
+    Stopped,
+    Left(u16),
+}
+
+// Dead time 0 is not running.
+pub struct Timers {
+    pub dead: u16,
+    pub report: Report,
+}
+
+// Ticks that one step of each multiplier stands for.
+pub struct Units {
+    pub dead: u8,
+    pub report: u8,
+}
+
+// What the gate goes by: the multipliers that are set, and whether the filter lets a due report out.
+pub struct Rules {
+    pub enabled: bool,
+    pub repeat: bool,
+    pub deadtime: u8,
+    pub report: u8,
+    pub units: Units,
+}
+
+// What the gate says of a tick: no event; one with a cause of the sensor's own; one whose only cause is the due report.
+pub enum Gate {
+    Silent,
+    Triggered,
+    Reported,
+}
+
+impl Rules {
+    // D of demand 3, in ticks.
+    pub fn dead_time(self) -> u16
+        ensures { λ r. ⌜ r ≡ deadTime self ⌝ }
+    {
+        let units = self.units;
+        times(self.deadtime, units.dead)
+    }
+
+    // R of demand 3: the report time, never below dead time.
+    pub fn report_time(self) -> u16
+        ensures { λ r. ⌜ r ≡ reportTime self ⌝ }
+    {
+        let units = self.units;
+        larger(self.dead_time(), times(self.report, units.report))
+    }
+}
+
+impl Report {
+    pub fn fallen(self) -> Report
+        ensures { λ r. ⌜ r ≡ fallenReport self ⌝ }
+    {
+        match self {
+            Report::Stopped => Report::Stopped,
+            Report::Left(n) => Report::Left(less(n)),
+        }
+    }
+
+    pub fn due(self) -> bool
+        ensures { λ r. ⌜ r ≡ due self ⌝ }
+    {
+        match self {
+            Report::Stopped => false,
+            Report::Left(n) => n == 0,
+        }
+    }
+
+    // Multiplier 0 is no report: the timer stands.
+    pub fn started(rules: Rules) -> Report
+        ensures { λ r. ⌜ r ≡ startedReport rules ⌝ }
+    {
+        if rules.report == 0 {
+            Report::Stopped
+        } else {
+            Report::Left(rules.report_time())
+        }
+    }
+}
+
+impl Timers {
+    // Every running timer falls by 1.
+    pub fn fallen(self) -> Timers
+        ensures { λ r. ⌜ r ≡ fallen self ⌝ }
+    {
+        let report = self.report;
+        Timers {
+            dead: less(self.dead),
+            report: report.fallen(),
+        }
+    }
+
+    // As an event starts them.
+    pub fn started(rules: Rules) -> Timers
+        ensures { λ r. ⌜ r ≡ started rules ⌝ }
+    {
+        Timers {
+            dead: rules.dead_time(),
+            report: Report::started(rules),
+        }
+    }
+
+    // At the end of a tick: started if the gate let an event out, else as they fell.
+    pub fn after(self, gate: Gate, rules: Rules) -> Timers
+        ensures { λ r. ⌜ r ≡ after gate rules self ⌝ }
+    {
+        match gate {
+            Gate::Silent => self,
+            Gate::Triggered => Timers::started(rules),
+            Gate::Reported => Timers::started(rules),
+        }
+    }
+}
+
+impl Gate {
+    // The decision of a tick, on timers that have fallen.
+    pub fn decided(rules: Rules, valid: bool, timers: Timers, cause: bool) -> Gate
+        ensures { λ r. ⌜ r ≡ decided rules valid timers cause ⌝ }
+    {
+        let report = timers.report;
+        let reports = report.due() & rules.repeat;
+        if rules.enabled & valid & (timers.dead == 0) {
+            if cause {
+                Gate::Triggered
+            } else {
+                if reports {
+                    Gate::Reported
+                } else {
+                    Gate::Silent
+                }
+            }
+        } else {
+            Gate::Silent
+        }
+    }
+}
+
+// One less, but not below 0.
+fn less(n: u16) -> u16
+    ensures { λ r. ⌜ r ≡ n - 1 ⌝ }
+{
+    if n == 0 { 0 } else { n - 1 }
+}
+
+fn larger(a: u16, b: u16) -> u16
+    ensures { λ r. ⌜ r ≡ max a b ⌝ }
+{
+    if a < b { b } else { a }
+}
+
+fn times(multiplier: u8, unit: u8) -> u16
+    ensures { λ r. ⌜ r ≡ multiplier * unit ⌝ }
+{
+    (multiplier as u16) * (unit as u16)
+}

@@ -1,0 +1,102 @@
+-- The laws of `widened`, each over every value, resolution and width: the rule itself, and what users of it rely on.
+-- Assumes nothing.
+use Prim.Native.Nat.{ℕ, zero, suc, _+_, _-_, _*_, _/_, _%_, _^_, _≤_, _<_}
+use Rattle.widen.specs.Width.{inputBytes, inputValue, mask, topBit, widened}
+use lib.Arith.{lt-one}
+use lib.Dec.{lit<}
+use lib.Pow.{high, mod-pow-add, ones-lt, ones-split, pow-mono, shl-exact, shr-shr}
+use mathlib.Core.Path.{_≡_, sym, ap, _∙_}
+use native.Mathlib.Nat.{add-suc, add-zero, div-eq-of-lt, div-one, le-of-lt, le-refl, lt-of-lt-of-le, mod-eq-of-lt, mod-one, one-mul, pow-suc, sub-self}
+use native.Mathlib.Numerals.{add-one, one-add}
+use native.Mathlib.Omega.{arith}
+
+-- ---- one bit
+-- a bit by its place s counted from the bottom
+pub low-bit : (n x j s : ℕ) → n - suc j ≡ s → topBit n x j ≡ x / 2 ^ s % 2
+low-bit n x j s e = ap (λ (k : ℕ). x / 2 ^ k % 2) e
+
+-- a bit above all of a number's m bits
+pub no-bit : (n x j m : ℕ) → x < 2 ^ m → m ≤ n - suc j → topBit n x j ≡ 0
+no-bit n x j m h l = ap (λ (y : ℕ). y % 2) (div-eq-of-lt (lt-of-lt-of-le h (pow-mono l)))
+
+pub below : (v r w : ℕ) → widened v r w < 2 ^ w
+unfolding widened
+below v r zero = lit< tt
+below v r (suc w) = omega (arith, below v r w, pow-suc 2 w)
+
+pub under : (v r w k : ℕ) → w ≤ k → widened v r w < 2 ^ k
+under v r w k h = lt-of-lt-of-le (below v r w) (pow-mono h)
+
+-- one bit more, as code counts
+pub step : (v r w : ℕ) → widened v r (w + 1) ≡ widened v r w * 2 + topBit r v (w % r)
+unfolding widened
+step v r w = rw (add-one w)
+
+-- the first a bits from the top are those of the width a
+pub cut : (v r a k : ℕ) → widened v r (a + k) / 2 ^ k ≡ widened v r a
+unfolding widened
+cut v r a zero = rw (add-zero, div-one)
+cut v r a (suc k) =
+    let y = widened v r (a + k) * 2 + topBit r v ((a + k) % r) in
+    let half : y / 2 ≡ widened v r (a + k) = omega arith in
+    let down : y / 2 / 2 ^ k ≡ y / 2 ^ suc k = rw one-add at (shr-shr y 1 k) in
+    rw (add-suc a k) (sym down ∙ ap (λ (x : ℕ). x / 2 ^ k) half ∙ cut v r a k)
+
+pub cut-to : (v r a n : ℕ) → n ≤ a → widened v r a / 2 ^ (a - n) ≡ widened v r n
+cut-to v r a n h =
+    let e : n + (a - n) ≡ a = omega arith in
+    rw e at (cut v r n (a - n))
+
+-- THE RULE: counted from the top, bit j of the widened value is bit (j mod r) of the value
+pub rule : (v r w j : ℕ) → j < w → topBit w (widened v r w) j ≡ topBit r v (j % r)
+unfolding widened
+rule v r w j h = ap (λ (x : ℕ). x % 2) (cut-to v r w (suc j) h) ∙ omega arith
+
+-- up to the resolution it is the top of the value
+pub first : (v r k : ℕ) → k ≤ r → widened v r k ≡ v / 2 ^ (r - k) % 2 ^ k
+unfolding widened
+first v r zero h = sym (mod-one (v / 2 ^ (r - 0)))
+first v r (suc k) h =
+    let m = r - suc k in
+    let up : r - k ≡ m + 1 = omega arith in
+    let b = ap (λ (j : ℕ). topBit r v j) (mod-eq-of-lt h) in
+    let ih : widened v r k ≡ v / 2 ^ (m + 1) % 2 ^ k = first v r k (le-of-lt h) ∙ ap (λ (x : ℕ). v / 2 ^ x % 2 ^ k) up in
+    let split : v / 2 ^ m % 2 ^ (k + 1) ≡ (v / 2 ^ m / 2 % 2 ^ k) * 2 + v / 2 ^ m % 2 = mod-pow-add (v / 2 ^ m) k 1 in
+    let join = ap (λ (x : ℕ). x % 2 ^ k) (shr-shr v m 1) in
+    omega (arith, b, ih, split, join, ap (λ (x : ℕ). v / 2 ^ m % 2 ^ x) (add-one k))
+
+-- at the resolution it is the value, cut to it
+pub whole : (v r : ℕ) → widened v r r ≡ v % 2 ^ r
+whole v r = first v r r (le-refl r) ∙ rw (sub-self r, div-one v)
+
+-- the rule fixes the number: what has w bits and obeys it is the widened value
+pub only : (v r w x : ℕ) → x < 2 ^ w → ((j : ℕ) → j < w → topBit w x j ≡ topBit r v (j % r)) → x ≡ widened v r w
+unfolding widened
+only v r zero x h f = lt-one h
+only v r (suc w) x h f =
+    let up : (j : ℕ) → j < w → topBit w (x / 2) j ≡ topBit r v (j % r) =
+    λ j l. ap (λ (y : ℕ). y % 2) (shr-shr x 1 (w - suc j)) ∙ sym (low-bit (suc w) x j (1 + (w - suc j)) (omega arith)) ∙ f j (omega arith) in
+    let top = only v r w (x / 2) (omega (arith, pow-suc 2 w)) up in
+    let last : x % 2 ≡ topBit r v (w % r) = sym (low-bit (suc w) x w 0 (omega arith) ∙ ap (λ (y : ℕ). y % 2) (div-one x)) ∙ f w (omega arith) in
+    omega (arith, top, last)
+
+-- least whole number of bytes
+pub least-bytes : (r : ℕ) → 0 < r → r ≤ 32 → (r ≤ 8 * inputBytes r) × (8 * inputBytes r < r + 8)
+least-bytes r p h = omega arith
+
+-- the value is read back off the top
+pub recover : (v r : ℕ) → v < 2 ^ r → r ≤ 32 → inputValue v r / 2 ^ (8 * inputBytes r - r) ≡ v
+recover v r h l = cut-to v r (8 * inputBytes r) r (omega arith) ∙ whole v r ∙ mod-eq-of-lt h
+
+-- no value that is allowed shows as MASK
+pub never-mask : (v r : ℕ) → v < 2 ^ r - 1 → r ≤ 32 → inputValue v r ≡ mask r → ⊥
+never-mask v r h l e =
+    let k = 8 * inputBytes r - r in
+    let s : r + k ≡ 8 * inputBytes r = omega arith in
+    let ones : mask r ≡ (2 ^ r - 1) * 2 ^ k + (2 ^ k - 1) = rw s at (ones-split r k) in
+    let back : v ≡ 2 ^ r - 1 = sym (recover v r (omega arith) l) ∙ ap (λ (y : ℕ). y / 2 ^ k) (e ∙ ones) ∙ high (2 ^ r - 1) k (ones-lt k) in
+    omega arith
+
+-- `1 << k` at 64 bits
+pub one-shl : (k : ℕ) → k < 64 → (1 * 2 ^ k) % 2 ^ 64 ≡ 2 ^ k
+one-shl k h = shl-exact {a = 1} 1 k 64 (lit< tt) (omega arith) ∙ one-mul (2 ^ k)
