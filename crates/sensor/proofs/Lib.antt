@@ -1,0 +1,4 @@
+pub mod Laws
+mod Table
+pub mod Marked
+mod Examples

@@ -1,0 +1,31 @@
+-- `sensor::kind::Kind::cause` meets its contract.
+-- Assumes nothing.
+use Rattle.sensor.proofs.kind.Kind.cause.Statement.{statement}
+use Rattle.sensor.proofs.kind.Kind.cause.Tie as tie
+use Rattle.sensor.specs.Kind.{cause}
+use borrow.Author.Needs.{needs}
+
+enum-known-self : tie.Need-enum-known-self
+enum-known-self c = search needs
+
+cause-requires : tie.Need-cause-requires
+cause-requires c κs = search needs
+
+enum-known-self-2 : tie.Need-enum-known-self-2
+enum-known-self-2 c = search needs
+
+cause-requires-2 : tie.Need-cause-requires-2
+cause-requires-2 c κs = search needs
+
+returns : tie.Need-returns
+unfolding cause
+returns c = rw (c .cause .ensures, c .before .before .self .given .1)
+
+returns-2 : tie.Need-returns-2
+unfolding cause
+returns-2 c = rw (c .cause2 .ensures, c .before .before .self2 .given .1)
+
+pub cause-spec : {M : Type 1} → statement M
+cause-spec =
+    tie.close
+    (tie.spec enum-known-self cause-requires enum-known-self-2 cause-requires-2 returns returns-2)

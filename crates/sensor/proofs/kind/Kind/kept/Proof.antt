@@ -1,0 +1,23 @@
+-- `sensor::kind::Kind::kept` meets its contract.
+-- Assumes nothing.
+use Rattle.sensor.proofs.kind.Kind.kept.Statement.{statement}
+use Rattle.sensor.proofs.kind.Kind.kept.Tie as tie
+use Rattle.sensor.specs.Kind.{kept}
+use borrow.Author.Needs.{needs}
+
+enum-told : tie.Need-enum-told
+enum-told c = search needs
+
+enum-told-2 : tie.Need-enum-told-2
+enum-told-2 c = search needs
+
+returns : tie.Need-returns
+unfolding kept
+returns c = rw (c .enum-told .given .1)
+
+returns-2 : tie.Need-returns-2
+unfolding kept
+returns-2 c = rw (c .enum-told2 .given .1)
+
+pub kept-spec : {M : Type 1} → statement M
+kept-spec = tie.close (tie.spec enum-told enum-told-2 returns returns-2)

@@ -1,0 +1,30 @@
+-- `sensor::kind::Kind::repeat` meets its contract.
+-- Assumes nothing.
+use Rattle.sensor.proofs.kind.Kind.repeat.Statement.{statement}
+use Rattle.sensor.proofs.kind.Kind.repeat.Tie as tie
+use Rattle.sensor.specs.Kind.{repeat}
+use borrow.Author.Needs.{needs}
+
+enum-told : tie.Need-enum-told
+enum-told c = search needs
+
+repeat-requires : tie.Need-repeat-requires
+repeat-requires c κs = search needs
+
+enum-told-2 : tie.Need-enum-told-2
+enum-told-2 c = search needs
+
+repeat-requires-2 : tie.Need-repeat-requires-2
+repeat-requires-2 c κs = search needs
+
+returns : tie.Need-returns
+unfolding repeat
+returns c = rw (c .repeat .ensures, c .before .enum-told .given .1)
+
+returns-2 : tie.Need-returns-2
+unfolding repeat
+returns-2 c = rw (c .repeat2 .ensures, c .before .enum-told2 .given .1)
+
+pub repeat-spec : {M : Type 1} → statement M
+repeat-spec =
+    tie.close (tie.spec enum-told repeat-requires enum-told-2 repeat-requires-2 returns returns-2)

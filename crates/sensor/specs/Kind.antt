@@ -1,0 +1,73 @@
+-- What each type of sensor gives to a tick, to commands and to queries (document 01, "Each type carries its own defaults, units and opcodes").
+-- Assumes nothing.
+use Prim.Native.Nat.{ℕ}
+use Rattle.gate.specs.declared.Rules.{Rules}
+use Rattle.gate.specs.declared.Units.{Units}
+use Rattle.sensor.specs.Light.{lightAllows, lightCause, lightInformation, lightInput, lightRepeat, lightSent, lightTaken, lightUnits}
+use Rattle.sensor.specs.Occupancy.{occupancyAllowing, occupancyAllows, occupancyCause, occupancyInformation, occupancyInput, occupancyRepeat, occupancySent, occupancyTaken, occupancyUnits}
+use Rattle.sensor.specs.declared.kind.Kind.the-variants.{Light, Occupancy}
+use Rattle.sensor.specs.declared.kind.Kind.{Kind}
+use Rattle.sensor.specs.declared.settings.Sample.{Sample}
+use Rattle.sensor.specs.declared.settings.Settings.{Settings}
+use lib.Dec.{eqb, leb}
+use mathlib.Core.Bool.{Bool, cond, _&&_}
+
+-- ---- for a tick
+unfoldable pub units : Kind → Units
+units (Light l) = lightUnits
+units (Occupancy o) = occupancyUnits
+
+unfoldable pub taken : Kind → Settings → (held : Sample) → Kind
+taken (Light l) s held = Light (lightTaken l held)
+taken (Occupancy o) s held = Occupancy (occupancyTaken o s held)
+
+unfoldable pub cause : Kind → Settings → Bool
+cause (Light l) s = lightCause l s
+cause (Occupancy o) s = occupancyCause o
+
+unfoldable pub repeat : Kind → Settings → Bool
+repeat (Light l) s = lightRepeat s
+repeat (Occupancy o) s = occupancyRepeat s
+
+unfoldable pub sent : Kind → Settings → Kind
+sent (Light l) s = Light (lightSent l s)
+sent (Occupancy o) s = Occupancy (occupancySent o)
+
+unfoldable pub information : Kind → (repeats : Bool) → ℕ
+information (Light l) repeats = lightInformation l
+information (Occupancy o) repeats = occupancyInformation o repeats
+
+-- what the gate goes by
+unfoldable pub rules : Kind → Settings → Rules
+rules k s = record { enabled = s .enabled; repeat = repeat k s; deadtime = s .deadtime; report = s .report; units = units k }
+
+-- ---- for commands, queries and samples
+unfoldable pub number : Kind → ℕ
+number (Light l) = 4
+number (Occupancy o) = 3
+
+unfoldable pub resolution : Kind → ℕ
+resolution (Light l) = l .resolution
+resolution (Occupancy o) = 2
+
+-- the filter bits kept: light 0, occupancy 0 to 4
+unfoldable pub kept : Kind → ℕ
+kept (Light l) = 1
+kept (Occupancy o) = 31
+
+unfoldable pub input : Kind → ℕ
+input (Light l) = lightInput l
+input (Occupancy o) = occupancyInput o
+
+unfoldable pub allows : Kind → Sample → Bool
+allows (Light l) sample = lightAllows l sample
+allows (Occupancy o) sample = occupancyAllows sample
+
+-- light has no waiting triggers
+unfoldable pub allowing : Kind → (allowed : ℕ) → Kind
+allowing (Light l) allowed = Light l
+allowing (Occupancy o) allowed = Occupancy (occupancyAllowing o allowed)
+
+-- ---- for declarations: type 3 with resolution 2, type 4 with resolution 1 to 24
+unfoldable pub modelled : (number resolution : ℕ) → Bool
+modelled n r = cond (eqb n 4) (leb 1 r && leb r 24) (eqb n 3 && eqb r 2)

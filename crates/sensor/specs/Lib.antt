@@ -1,0 +1,6 @@
+pub mod Light
+pub mod Occupancy
+pub mod Kind
+pub mod Fresh
+pub mod Tick
+pub mod Marked

@@ -1,0 +1,140 @@
+// One instance, and its tick.
+use crate::kind::Kind;
+use crate::light::Light;
+use crate::occupancy::Occupancy;
+use crate::settings::Sample;
+use crate::settings::Settings;
+use gate::Gate;
+use gate::Report;
+use gate::Timers;
+ghost use Rattle.sensor.specs.Fresh.{declared, fresh};
+ghost use Rattle.sensor.specs.Tick.{closed, holding, kindAfter, sentAfter, ticked};
+ghost use mathlib.Core.Path.{_≡_};
+
+// The bytes of inputValue that 8D has yet to answer: the lowest `left` of `bytes`.
+pub struct Latch {
+    pub left: u8,
+    pub bytes: u32,
+}
+
+// held: the latest sample. failed: status 2 at the last tick.
+pub struct Instance {
+    pub kind: Kind,
+    pub settings: Settings,
+    pub timers: Timers,
+    pub held: Sample,
+    pub failed: bool,
+    pub latch: Latch,
+}
+
+pub enum Sent {
+    Nothing,
+    Event { priority: u8, information: u16 },
+}
+
+pub struct Ticked {
+    pub instance: Instance,
+    pub sent: Sent,
+}
+
+impl Instance {
+    // As declared: dead time not running, report timer started, nothing latched.
+    pub fn fresh(kind: Kind, settings: Settings, held: Sample) -> Instance
+        ensures { λ r. ⌜ r ≡ fresh kind settings held ⌝ }
+    {
+        let rules = kind.rules(settings);
+        let report = Report::started(rules);
+        let timers = Timers { dead: 0, report };
+        let latch = Latch { left: 0, bytes: 0 };
+        Instance {
+            kind,
+            settings,
+            timers,
+            held,
+            failed: false,
+            latch,
+        }
+    }
+
+    // An instance of the type with that number; light for any number that is not occupancy's.
+    pub fn declared(number: u8, resolution: u8) -> Instance
+        ensures { λ r. ⌜ r ≡ declared number resolution ⌝ }
+    {
+        if number == Occupancy::TYPE {
+            Occupancy::fresh()
+        } else {
+            Light::fresh(resolution)
+        }
+    }
+
+    // SA only replaces the held sample.
+    pub fn holding(self, sample: Sample) -> Instance
+        ensures { λ r. ⌜ r ≡ holding self sample ⌝ }
+    {
+        Instance {
+            held: sample,
+            ..self
+        }
+    }
+
+    // The timers fall, the held sample is taken, and at most one event is sent.
+    pub fn tick(self) -> Ticked
+        ensures { λ r. ⌜ r ≡ ticked self ⌝ }
+    {
+        let settings = self.settings;
+        let held = self.held;
+        let last = self.kind;
+        let running = self.timers;
+        let kind = last.taken(settings, held);
+        let rules = kind.rules(settings);
+        let fell = running.fallen();
+        let cause = kind.cause(settings);
+        let gate = Gate::decided(rules, held.status == 0, fell, cause);
+        let timers = fell.after(gate, rules);
+        self.closed(kind, timers, gate)
+    }
+
+    // The end of a tick, as the gate said.
+    fn closed(self, kind: Kind, timers: Timers, gate: Gate) -> Ticked
+        ensures { λ r. ⌜ r ≡ closed self kind timers gate ⌝ }
+    {
+        let settings = self.settings;
+        let held = self.held;
+        let next = kind_after(gate, kind, settings);
+        let instance = Instance {
+            kind: next,
+            timers,
+            failed: held.status == 2,
+            ..self
+        };
+        let sent = sent_after(gate, kind, settings);
+        Ticked { instance, sent }
+    }
+}
+
+fn kind_after(gate: Gate, kind: Kind, settings: Settings) -> Kind
+    ensures { λ r. ⌜ r ≡ kindAfter gate kind settings ⌝ }
+{
+    match gate {
+        Gate::Silent => kind,
+        Gate::Triggered => kind.sent(settings),
+        Gate::Reported => kind.sent(settings),
+    }
+}
+
+// Priority 5 where the due report is the only cause.
+fn sent_after(gate: Gate, kind: Kind, settings: Settings) -> Sent
+    ensures { λ r. ⌜ r ≡ sentAfter gate kind settings ⌝ }
+{
+    match gate {
+        Gate::Silent => Sent::Nothing,
+        Gate::Triggered => Sent::Event {
+            priority: settings.priority,
+            information: kind.information(false),
+        },
+        Gate::Reported => Sent::Event {
+            priority: 5,
+            information: kind.information(true),
+        },
+    }
+}

@@ -1,0 +1,159 @@
+// The types of sensor. All else knows a type by these functions alone: a further type is a variant, a file and an arm in each.
+use crate::light::Light;
+use crate::occupancy::Occupancy;
+use crate::settings::Sample;
+use crate::settings::Settings;
+use gate::Rules;
+use gate::Units;
+ghost use Rattle.sensor.specs.Kind.{allowing, allows, cause, information, input, kept, modelled, number, repeat, resolution, rules, sent, taken, units};
+ghost use mathlib.Core.Path.{_≡_};
+
+pub enum Kind {
+    Light(Light),
+    Occupancy(Occupancy),
+}
+
+impl Kind {
+    // Ticks that one step of its multipliers stands for.
+    pub fn units(self) -> Units
+        ensures { λ r. ⌜ r ≡ units self ⌝ }
+    {
+        match self {
+            Kind::Light(_) => Light::UNITS,
+            Kind::Occupancy(_) => Occupancy::UNITS,
+        }
+    }
+
+    // With the sample of this tick taken.
+    pub fn taken(self, settings: Settings, held: Sample) -> Kind
+        ensures { λ r. ⌜ r ≡ taken self settings held ⌝ }
+    {
+        match self {
+            Kind::Light(x) => Kind::Light(x.taken(held)),
+            Kind::Occupancy(x) => Kind::Occupancy(x.taken(settings, held)),
+        }
+    }
+
+    // A trigger of its own may be sent.
+    pub fn cause(self, settings: Settings) -> bool
+        ensures { λ r. ⌜ r ≡ cause self settings ⌝ }
+    {
+        match self {
+            Kind::Light(x) => x.cause(settings),
+            Kind::Occupancy(x) => x.cause(),
+        }
+    }
+
+    // The filter lets a due report out.
+    pub fn repeat(self, settings: Settings) -> bool
+        ensures { λ r. ⌜ r ≡ repeat self settings ⌝ }
+    {
+        match self {
+            Kind::Light(_) => Light::repeat(settings),
+            Kind::Occupancy(_) => Occupancy::repeat(settings),
+        }
+    }
+
+    // As an event leaves it.
+    pub fn sent(self, settings: Settings) -> Kind
+        ensures { λ r. ⌜ r ≡ sent self settings ⌝ }
+    {
+        match self {
+            Kind::Light(x) => Kind::Light(x.sent(settings)),
+            Kind::Occupancy(x) => Kind::Occupancy(x.sent()),
+        }
+    }
+
+    // What an event says. repeats: the due report is its only cause.
+    pub fn information(self, repeats: bool) -> u16
+        ensures { λ r. ⌜ r ≡ information self repeats ⌝ }
+    {
+        match self {
+            Kind::Light(x) => x.information(),
+            Kind::Occupancy(x) => x.information(repeats),
+        }
+    }
+
+    // What the gate goes by.
+    pub fn rules(self, settings: Settings) -> Rules
+        ensures { λ r. ⌜ r ≡ rules self settings ⌝ }
+    {
+        Rules {
+            enabled: settings.enabled,
+            repeat: self.repeat(settings),
+            deadtime: settings.deadtime,
+            report: settings.report,
+            units: self.units(),
+        }
+    }
+
+    // The type's number.
+    pub fn number(self) -> u8
+        ensures { λ r. ⌜ r ≡ number self ⌝ }
+    {
+        match self {
+            Kind::Light(_) => Light::TYPE,
+            Kind::Occupancy(_) => Occupancy::TYPE,
+        }
+    }
+
+    pub fn resolution(self) -> u8
+        ensures { λ r. ⌜ r ≡ resolution self ⌝ }
+    {
+        match self {
+            Kind::Light(x) => x.resolution,
+            Kind::Occupancy(_) => Occupancy::RESOLUTION,
+        }
+    }
+
+    // The filter bits that the type keeps.
+    pub fn kept(self) -> u8
+        ensures { λ r. ⌜ r ≡ kept self ⌝ }
+    {
+        match self {
+            Kind::Light(_) => Light::KEPT,
+            Kind::Occupancy(_) => Occupancy::KEPT,
+        }
+    }
+
+    // inputValue, as queries show it.
+    pub fn input(self) -> u32
+        ensures { λ r. ⌜ r ≡ input self ⌝ }
+    {
+        match self {
+            Kind::Light(x) => x.input(),
+            Kind::Occupancy(x) => x.input(),
+        }
+    }
+
+    // Which samples the type takes.
+    pub fn allows(self, sample: Sample) -> bool
+        ensures { λ r. ⌜ r ≡ allows self sample ⌝ }
+    {
+        match self {
+            Kind::Light(x) => x.allows(sample),
+            Kind::Occupancy(_) => Occupancy::allows(sample),
+        }
+    }
+
+    // Of the triggers that wait, only those go on waiting that `allowed` has.
+    pub fn allowing(self, allowed: u8) -> Kind
+        ensures { λ r. ⌜ r ≡ allowing self allowed ⌝ }
+    {
+        match self {
+            Kind::Light(x) => Kind::Light(x),
+            Kind::Occupancy(x) => Kind::Occupancy(x.allowing(allowed)),
+        }
+    }
+}
+
+// Type 3 with resolution 2, or type 4 with 1 to 24.
+pub fn modelled(number: u8, resolution: u8) -> bool
+    ensures { λ r. ⌜ r ≡ modelled number resolution ⌝ }
+{
+    if number == Light::TYPE {
+        (1 <= resolution) & (resolution <= 24)
+    } else {
+        (number == Occupancy::TYPE) & (resolution == Occupancy::RESOLUTION)
+    }
+}

@@ -1,0 +1,233 @@
+// The light sensor (type 4; IEC 62386-304). Band, width and comparison are on the measured value, never on the padded one.
+use crate::instance::Instance;
+use crate::kind::Kind;
+use crate::settings::Sample;
+use crate::settings::Settings;
+use gate::Units;
+ghost use Prim.Native.Nat.{_-_, _<_, _^_};
+ghost use Rattle.sensor.specs.Fresh.{lightFresh};
+ghost use Rattle.sensor.specs.Light.{lightAllows, lightCause, lightInformation, lightInput, lightRepeat, lightSent, lightTaken, minimum, moved, outside, width};
+ghost use Rattle.sensor.specs.declared.light.Band.the-variants.{Between};
+ghost use lib.Dec.{ltb};
+ghost use mathlib.Core.Path.{_≡_};
+
+// Where the measured value may lie without a trigger.
+pub enum Band {
+    Nowhere,
+    Between { low: u64, high: u64 },
+}
+
+// shown: the sample of the last tick.
+pub struct Light {
+    pub resolution: u8,
+    pub shown: Sample,
+    pub band: Band,
+}
+
+impl Light {
+    pub const TYPE: u8 = 4;
+
+    pub const DEADTIME: u8 = 30;
+
+    pub const REPORT: u8 = 30;
+
+    pub const FILTER: u8 = 1;
+
+    pub const PRIORITY: u8 = 4;
+
+    pub const HYSTERESIS: u8 = 5;
+
+    pub const UNITS: Units = Units {
+        dead: 1,
+        report: 20,
+    };
+
+    // The filter bits kept: bit 0.
+    pub const KEPT: u8 = 1;
+
+    pub fn fresh(resolution: u8) -> Instance
+        ensures { λ r. ⌜ r ≡ lightFresh resolution ⌝ }
+    {
+        let settings = Settings {
+            report: Light::REPORT,
+            deadtime: Light::DEADTIME,
+            filter: Light::FILTER,
+            priority: Light::PRIORITY,
+            enabled: true,
+            hysteresis: Light::HYSTERESIS,
+            minimum: minimum(resolution),
+        };
+        let unready = Sample {
+            status: 1,
+            value: 0,
+        };
+        let light = Light {
+            resolution,
+            shown: unready,
+            band: Band::Nowhere,
+        };
+        Instance::fresh(Kind::Light(light), settings, unready)
+    }
+
+    // Which samples the type takes. All ones is MASK, and no value.
+    pub fn allows(self, sample: Sample) -> bool
+        ensures { λ r. ⌜ r ≡ lightAllows self sample ⌝ }
+    {
+        if sample.status == 0 {
+            below_mask(sample.value, self.resolution)
+        } else {
+            (sample.status <= 2) & (sample.value == 0)
+        }
+    }
+
+    // The sample of this tick is taken; status 1 or 2 discards the band.
+    pub fn taken(self, held: Sample) -> Light
+        ensures { λ r. ⌜ r ≡ lightTaken self held ⌝ }
+    {
+        let band = self.band;
+        if held.status == 0 {
+            Light {
+                resolution: self.resolution,
+                shown: held,
+                band,
+            }
+        } else {
+            Light {
+                resolution: self.resolution,
+                shown: held,
+                band: Band::Nowhere,
+            }
+        }
+    }
+
+    // A trigger of its own that the filter lets through.
+    pub fn cause(self, settings: Settings) -> bool
+        ensures { λ r. ⌜ r ≡ lightCause self settings ⌝ }
+    {
+        let band = self.band;
+        let shown = self.shown;
+        Light::repeat(settings) & (0 < settings.hysteresis) & band.outside(shown.value)
+    }
+
+    // Filter bit 0 lets every light event out, the due report too.
+    pub fn repeat(settings: Settings) -> bool
+        ensures { λ r. ⌜ r ≡ lightRepeat settings ⌝ }
+    {
+        settings.filter % 2 == 1
+    }
+
+    // As an event leaves it.
+    pub fn sent(self, settings: Settings) -> Light
+        ensures { λ r. ⌜ r ≡ lightSent self settings ⌝ }
+    {
+        let band = self.band;
+        let shown = self.shown;
+        Light {
+            resolution: self.resolution,
+            shown,
+            band: band.moved(shown.value, settings),
+        }
+    }
+
+    // What an event says.
+    pub fn information(self) -> u16
+        ensures { λ r. ⌜ r ≡ lightInformation self ⌝ }
+    {
+        let shown = self.shown;
+        widen::information(shown.value, self.resolution)
+    }
+
+    // inputValue, as queries show it: MASK for status 1 and 2.
+    pub fn input(self) -> u32
+        ensures { λ r. ⌜ r ≡ lightInput self ⌝ }
+    {
+        let shown = self.shown;
+        if shown.status == 0 {
+            widen::input_value(shown.value, self.resolution)
+        } else {
+            widen::mask(self.resolution)
+        }
+    }
+}
+
+impl Band {
+    // Above high, below low, or no band.
+    pub fn outside(self, v: u32) -> bool
+        ensures { λ r. ⌜ r ≡ outside self v ⌝ }
+    {
+        let at = v as u64;
+        match self {
+            Band::Nowhere => true,
+            Band::Between { low, high } => (high < at) | (at < low),
+        }
+    }
+
+    // As an event at v leaves it; inside the band it stays.
+    pub fn moved(self, v: u32, settings: Settings) -> Band
+        ensures { λ r. ⌜ r ≡ moved self v (width v (settings .hysteresis) (settings .minimum)) ⌝ }
+    {
+        let at = v as u64;
+        let wide = width(v, settings.hysteresis, settings.minimum);
+        match self {
+            Band::Nowhere => under(at, wide),
+            Band::Between { low, high } => {
+                if high < at {
+                    under(at, wide)
+                } else {
+                    if at < low {
+                        let top = at + wide;
+                        Band::Between { low: at, high: top }
+                    } else {
+                        self
+                    }
+                }
+            }
+        }
+    }
+}
+
+// The larger of hysteresisMin and v x hysteresis / 100.
+fn width(v: u32, hysteresis: u8, least: u8) -> u64
+    ensures is { λ r. ⌜ r ≡ width v hysteresis least ⌝ }
+    ensures small { λ r. ⌜ r < 2 ^ 40 ⌝ }
+{
+    let part = (v as u64) * (hysteresis as u64) / 100;
+    let floor = least as u64;
+    if part < floor { floor } else { part }
+}
+
+// A band that ends at v, not below 0.
+fn under(v: u64, wide: u64) -> Band
+    ensures { λ r. ⌜ r ≡ Between (v - wide) v ⌝ }
+{
+    if wide < v {
+        let low = v - wide;
+        Band::Between { low, high: v }
+    } else {
+        Band::Between { low: 0, high: v }
+    }
+}
+
+// hysteresisMin at start.
+fn minimum(resolution: u8) -> u8
+    ensures { λ r. ⌜ r ≡ minimum resolution ⌝ }
+{
+    if resolution < 15 {
+        let most: u32 = 1 << resolution;
+        (most / 100) as u8
+    } else {
+        255
+    }
+}
+
+// At most 2^resolution - 2.
+fn below_mask(value: u32, resolution: u8) -> bool
+    ensures { λ r. ⌜ r ≡ ltb value (2 ^ resolution - 1) ⌝ }
+{
+    if resolution < 33 {
+        let ones = (1u64 << resolution) - 1;
+        (value as u64) < ones
+    } else {
+        true
+    }
+}
