@@ -1,0 +1,5 @@
+mod Block
+mod Cases
+mod Rest
+pub mod Opcodes
+pub mod Laws

@@ -1,0 +1,50 @@
+-- `command::acted` meets its contract.
+-- Assumes nothing.
+use Rattle.command.proofs.acted.Statement.{statement}
+use Rattle.command.proofs.acted.Tie as tie
+use Rattle.command.specs.Answering.{acted, done}
+use borrow.Author.Needs.{needs}
+
+meaning-requires : tie.Need-meaning-requires
+meaning-requires c κs = search needs
+
+enum-known-command : tie.Need-enum-known-command
+enum-known-command c = search needs
+
+obeyed-requires : tie.Need-obeyed-requires
+obeyed-requires c κs = search needs
+
+enum-known-query : tie.Need-enum-known-query
+enum-known-query c = search needs
+
+asked-requires : tie.Need-asked-requires
+asked-requires c κs = search needs
+
+enum-told : tie.Need-enum-told
+enum-told c = search needs
+
+returns : tie.Need-returns
+unfolding acted done
+returns c = rw (← c .before .before .before .before .meaning .ensures, c .before .before .command .given .1, c .obeyed .ensures)
+
+returns-2 : tie.Need-returns-2
+unfolding acted done
+returns-2 c = rw (← c .before .before .before .before .meaning .ensures, c .before .before .query .given .1, c .asked .ensures)
+
+returns-3 : tie.Need-returns-3
+unfolding acted done
+returns-3 c = rw (← c .before .before .meaning .ensures, c .enum-told .given .1)
+
+pub acted-spec : {M : Type 1} → statement M
+acted-spec =
+    tie.close
+    (tie.spec
+    meaning-requires
+    enum-known-command
+    obeyed-requires
+    enum-known-query
+    asked-requires
+    enum-told
+    returns
+    returns-2
+    returns-3)

@@ -1,0 +1,128 @@
+// The queries, and the latch of inputValue.
+use crate::meaning::Query;
+use sensor::Instance;
+use sensor::Latch;
+ghost use Rattle.command.specs.Answering.{asked, byteAt, latched, onlyIf, plain, status, told};
+ghost use mathlib.Core.Path.{_≡_};
+
+pub enum Answer {
+    None,
+    Byte(u8),
+}
+
+// The instance as byte 3 leaves it, and what it answers.
+pub struct Acted {
+    pub instance: Instance,
+    pub answer: Answer,
+}
+
+// What is answered of an inputValue, and what is left of it.
+struct Piece {
+    answer: Answer,
+    latch: Latch,
+}
+
+// A query changes nothing but the latch.
+pub fn asked(x: Instance, query: Query) -> Acted
+    ensures { λ r. ⌜ r ≡ asked x query ⌝ }
+{
+    let kind = x.kind;
+    let latch = x.latch;
+    match query {
+        Query::QueryValue => told(
+            x,
+            latched(kind.input(), widen::input_bytes(kind.resolution())),
+        ),
+        Query::QueryNext => told(x, latched(latch.bytes, latch.left)),
+        _ => {
+            let answer = plain(x, query);
+            Acted {
+                instance: x,
+                answer,
+            }
+        }
+    }
+}
+
+fn told(x: Instance, l: Piece) -> Acted
+    ensures { λ r. ⌜ r ≡ told x l ⌝ }
+{
+    let latch = l.latch;
+    let answer = l.answer;
+    let instance = Instance { latch, ..x };
+    Acted { instance, answer }
+}
+
+// The top of the `left` bytes of a value, and the rest latched; none when used up.
+fn latched(bytes: u32, left: u8) -> Piece
+    ensures { λ r. ⌜ r ≡ latched bytes left ⌝ }
+{
+    if left == 0 {
+        return Piece {
+            answer: Answer::None,
+            latch: Latch { left: 0, bytes },
+        };
+    }
+    let rest = left - 1;
+    let top = byte_at(bytes, rest);
+    Piece {
+        answer: Answer::Byte(top),
+        latch: Latch { left: rest, bytes },
+    }
+}
+
+// Every query but those of inputValue.
+fn plain(x: Instance, query: Query) -> Answer
+    ensures { λ r. ⌜ r ≡ plain x query ⌝ }
+{
+    let kind = x.kind;
+    let settings = x.settings;
+    match query {
+        Query::QueryType => Answer::Byte(kind.number()),
+        Query::QueryResolution => Answer::Byte(kind.resolution()),
+        Query::QueryError => only_if(x.failed, 1),
+        Query::QueryStatus => Answer::Byte(status(x.failed, settings.enabled)),
+        Query::QueryPriority => Answer::Byte(settings.priority),
+        Query::QueryEnabled => only_if(settings.enabled, 0xFF),
+        Query::QueryFilter => Answer::Byte(settings.filter),
+        Query::QueryReport => Answer::Byte(settings.report),
+        Query::QueryDeadtime => Answer::Byte(settings.deadtime),
+        Query::QueryHysteresis => Answer::Byte(settings.hysteresis),
+        Query::QueryHysteresisMin => Answer::Byte(settings.minimum),
+        Query::QueryValue | Query::QueryNext => Answer::None,
+    }
+}
+
+fn only_if(said: bool, byte: u8) -> Answer
+    ensures { λ r. ⌜ r ≡ onlyIf said byte ⌝ }
+{
+    if said {
+        Answer::Byte(byte)
+    } else {
+        Answer::None
+    }
+}
+
+// Bit 0 error, bit 1 enabled.
+fn status(failed: bool, enabled: bool) -> u8
+    ensures { λ r. ⌜ r ≡ status failed enabled ⌝ }
+{
+    if failed {
+        if enabled { 3 } else { 1 }
+    } else {
+        if enabled { 2 } else { 0 }
+    }
+}
+
+// Byte k of a value, counted from the lowest.
+fn byte_at(v: u32, k: u8) -> u8
+    ensures { λ r. ⌜ r ≡ byteAt v k ⌝ }
+{
+    match k {
+        0 => (v % 256) as u8,
+        1 => (v / 256 % 256) as u8,
+        2 => (v / 65536 % 256) as u8,
+        3 => (v / 16777216 % 256) as u8,
+        _ => 0,
+    }
+}

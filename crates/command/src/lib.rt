@@ -1,0 +1,42 @@
+// What byte 3 of a frame means to an instance, and what it does (document 01, "Frames"). All by value, but for the settings block, which an instance lends.
+mod answering;
+mod lent;
+mod meaning;
+mod opcode;
+mod setting;
+
+pub use answering::Acted;
+pub use answering::Answer;
+pub use answering::asked;
+pub use lent::apply;
+pub use meaning::Command;
+pub use meaning::Meaning;
+pub use meaning::Query;
+pub use opcode::light_meaning;
+pub use opcode::occupancy_meaning;
+use sensor::Instance;
+pub use setting::changed;
+pub use setting::obeyed;
+ghost use Rattle.command.specs.Answering.{acted};
+ghost use mathlib.Core.Path.{_≡_};
+
+// What byte 3 does to the instance.
+pub fn acted(x: Instance, opcode: u8, dtr0: u8) -> Acted
+    ensures { λ r. ⌜ r ≡ acted x opcode dtr0 ⌝ }
+{
+    let kind = x.kind;
+    match opcode::meaning(kind, opcode) {
+        Meaning::Set(command) => {
+            let instance = setting::obeyed(x, command, dtr0);
+            Acted {
+                instance,
+                answer: Answer::None,
+            }
+        }
+        Meaning::Ask(query) => answering::asked(x, query),
+        Meaning::Ignored => Acted {
+            instance: x,
+            answer: Answer::None,
+        },
+    }
+}

@@ -1,0 +1,169 @@
+// The setting commands, by value: what each makes of the settings, of the report timer and of the triggers that wait.
+use crate::lent::apply;
+use crate::meaning::Command;
+use gate::Report;
+use gate::Rules;
+use gate::Timers;
+use sensor::Instance;
+use sensor::Kind;
+use sensor::Settings;
+ghost use Rattle.command.specs.Setting.{changed, kindTold, obeyed, retimed, retimedReport, withDeadtime, withEnabled, withFilter, withHysteresis, withMinimum, withPriority, withReport, withSettings};
+ghost use mathlib.Core.Path.{_≡_};
+
+// What a command makes of the settings. kept: the filter bits that the type keeps.
+pub fn changed(settings: Settings, command: Command, dtr0: u8, kept: u8) -> Settings
+    ensures { λ r. ⌜ r ≡ changed settings command dtr0 kept ⌝ }
+{
+    match command {
+        Command::SetPriority => with_priority(settings, dtr0),
+        Command::Enable => with_enabled(settings, true),
+        Command::Disable => with_enabled(settings, false),
+        Command::SetFilter => with_filter(settings, dtr0 & kept),
+        Command::SetReport => with_report(settings, dtr0),
+        Command::SetDeadtime => with_deadtime(settings, dtr0),
+        Command::SetHysteresis => with_hysteresis(settings, dtr0),
+        Command::SetHysteresisMin => with_minimum(settings, dtr0),
+    }
+}
+
+// What a command makes of the instance: its settings, its report timer, its waiting triggers.
+pub fn obeyed(x: Instance, command: Command, dtr0: u8) -> Instance
+    ensures { λ r. ⌜ r ≡ obeyed x command dtr0 ⌝ }
+{
+    let next = with_settings(x, command, dtr0);
+    let kind = next.kind;
+    let settings = next.settings;
+    let timers = next.timers;
+    let rules = kind.rules(settings);
+    let told = kind_told(kind, command, settings.filter);
+    let running = retimed(timers, command, rules);
+    Instance {
+        kind: told,
+        timers: running,
+        ..next
+    }
+}
+
+// The instance lends its settings block to the command, and nothing else of it changes.
+fn with_settings(mut x: Instance, command: Command, dtr0: u8) -> Instance
+    ensures { λ r. ⌜ r ≡ withSettings x command dtr0 ⌝ }
+{
+    let kind = x.kind;
+    let kept = kind.kept();
+    apply(&mut x.settings, command, dtr0, kept);
+    x
+}
+
+// Disabling clears the triggers that wait; a new filter keeps only those it allows.
+fn kind_told(kind: Kind, command: Command, filter: u8) -> Kind
+    ensures { λ r. ⌜ r ≡ kindTold kind command filter ⌝ }
+{
+    match command {
+        Command::Disable => kind.allowing(0),
+        Command::SetFilter => kind.allowing(filter),
+        _ => kind,
+    }
+}
+
+// A new time serves from the next start of its timer, but for the report timer's two exceptions. rules: with the new settings.
+fn retimed(timers: Timers, command: Command, rules: Rules) -> Timers
+    ensures { λ r. ⌜ r ≡ retimed timers command rules ⌝ }
+{
+    match command {
+        Command::SetReport => {
+            let report = timers.report;
+            Timers {
+                dead: timers.dead,
+                report: retimed_report(report, rules),
+            }
+        }
+        _ => timers,
+    }
+}
+
+// Set to 0 it stops at once; set above 0 while stopped it starts at once.
+fn retimed_report(report: Report, rules: Rules) -> Report
+    ensures { λ r. ⌜ r ≡ retimedReport report rules ⌝ }
+{
+    if rules.report == 0 {
+        return Report::Stopped;
+    }
+    match report {
+        Report::Stopped => Report::started(rules),
+        Report::Left(n) => Report::Left(n),
+    }
+}
+
+// 2 to 5, else no change.
+fn with_priority(settings: Settings, d: u8) -> Settings
+    ensures { λ r. ⌜ r ≡ withPriority settings d ⌝ }
+{
+    if d < 2 {
+        return settings;
+    }
+    if 5 < d {
+        return settings;
+    }
+    Settings {
+        priority: d,
+        ..settings
+    }
+}
+
+fn with_enabled(settings: Settings, on: bool) -> Settings
+    ensures { λ r. ⌜ r ≡ withEnabled settings on ⌝ }
+{
+    Settings {
+        enabled: on,
+        ..settings
+    }
+}
+
+fn with_filter(settings: Settings, d: u8) -> Settings
+    ensures { λ r. ⌜ r ≡ withFilter settings d ⌝ }
+{
+    Settings {
+        filter: d,
+        ..settings
+    }
+}
+
+fn with_report(settings: Settings, d: u8) -> Settings
+    ensures { λ r. ⌜ r ≡ withReport settings d ⌝ }
+{
+    Settings {
+        report: d,
+        ..settings
+    }
+}
+
+fn with_deadtime(settings: Settings, d: u8) -> Settings
+    ensures { λ r. ⌜ r ≡ withDeadtime settings d ⌝ }
+{
+    Settings {
+        deadtime: d,
+        ..settings
+    }
+}
+
+// Above 25: no change.
+fn with_hysteresis(settings: Settings, d: u8) -> Settings
+    ensures { λ r. ⌜ r ≡ withHysteresis settings d ⌝ }
+{
+    if 25 < d {
+        return settings;
+    }
+    Settings {
+        hysteresis: d,
+        ..settings
+    }
+}
+
+fn with_minimum(settings: Settings, d: u8) -> Settings
+    ensures { λ r. ⌜ r ≡ withMinimum settings d ⌝ }
+{
+    Settings {
+        minimum: d,
+        ..settings
+    }
+}
