@@ -1,0 +1,5 @@
+pub mod Sweep
+pub mod Laws
+mod Tail
+mod Turn
+mod Numbered

@@ -1,0 +1,13 @@
+-- `bench::model::known` meets its contract.
+-- Assumes nothing.
+use Rattle.bench.proofs.model.known.Statement.{statement}
+use Rattle.bench.proofs.model.known.Tie as tie
+use Rattle.bench.specs.Device.{known}
+use mathlib.Core.Path.{refl}
+
+returns : tie.Need-returns
+unfolding known
+returns c = refl
+
+pub known-spec : {M : Type 1} → statement M
+known-spec = tie.close (tie.spec returns)

@@ -1,0 +1,86 @@
+// The device by value, and the records that log nothing: declarations and samples.
+use sensor::Instance;
+use sensor::Sample;
+ghost use Rattle.bench.specs.Device.{allowed, declared, fresh, held, known};
+ghost use mathlib.Core.Path.{_≡_};
+
+// running: a record that is no IN was taken, and declarations are over. Instances from `count` on are not declared.
+pub struct Model {
+    pub tick: u32,
+    pub dtr0: u8,
+    pub count: u8,
+    pub running: bool,
+    pub instances: [Instance; 16],
+}
+
+// What came of a change that logs: the model after it and the bytes written; where these do not fit, the model as it was.
+pub struct Offered {
+    pub model: Model,
+    pub written: usize,
+    pub fits: bool,
+}
+
+// The model at the start of a session.
+pub fn fresh() -> Model
+    ensures { λ r. ⌜ r ≡ fresh ⌝ }
+{
+    let nobody = Instance::declared(4, 1);
+    Model {
+        tick: 0,
+        dtr0: 0,
+        count: 0,
+        running: false,
+        instances: [nobody; 16],
+    }
+}
+
+// The instance is declared.
+pub fn known(model: Model, instance: u8) -> bool
+    ensures { λ r. ⌜ r ≡ known model instance ⌝ }
+{
+    (instance < model.count) & (instance < 16)
+}
+
+// IN: the next instance, of that type. There is no seventeenth.
+pub fn declare(model: Model, number: u8, resolution: u8) -> Model
+    ensures { λ r. ⌜ r ≡ declared model number resolution ⌝ }
+{
+    let next = model.count;
+    let i = next as usize;
+    let mut m = model;
+    if i < 16 {
+        let x = Instance::declared(number, resolution);
+        m.instances[i] = x;
+        m.count = next + 1;
+    }
+    m
+}
+
+// SA: the instance holds the sample from now on.
+pub fn hold(model: Model, instance: u8, sample: Sample) -> Model
+    ensures { λ r. ⌜ r ≡ held model instance sample ⌝ }
+{
+    let i = instance as usize;
+    let mut m = model;
+    m.running = true;
+    if i < 16 {
+        let x = m.instances[i];
+        let y = x.holding(sample);
+        m.instances[i] = y;
+    }
+    m
+}
+
+// The sample is one that the instance's type takes. Of an instance that there cannot be, none is.
+pub fn allows(model: Model, instance: u8, sample: Sample) -> bool
+    ensures { λ r. ⌜ r ≡ allowed model instance sample ⌝ }
+{
+    let i = instance as usize;
+    if i < 16 {
+        let x = model.instances[i];
+        let kind = x.kind;
+        kind.allows(sample)
+    } else {
+        false
+    }
+}
