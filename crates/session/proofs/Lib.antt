@@ -1,0 +1,4 @@
+pub mod Laws
+pub mod Bounds
+mod Turn
+mod Examples
