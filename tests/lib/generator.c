@@ -1,0 +1,540 @@
+#include "generator.h"
+
+#include <stdbool.h>
+#include <string.h>
+
+enum { OCCUPANCY = 3, LIGHT = 4 };
+enum { INSTANCES = 16, SESSION_MAX = 1 << 16 };
+
+/* What the generator remembers of an instance, to choose values and tick counts that tell something. It may be wrong: a setting
+ * that is refused is remembered all the same. */
+typedef struct {
+    uint8_t type, resolution;
+    uint8_t hysteresis, hysteresis_min, deadtime, report;
+    uint32_t base; /* a value that the band may begin from */
+} sketch;
+
+typedef struct {
+    uint64_t random;
+    uint8_t *bytes;
+    size_t len;
+    uint8_t dtr0;
+    unsigned declared;
+    unsigned work_left; /* ticks x instances that the session may still cost */
+    sketch instance[INSTANCES];
+} generator;
+
+static uint8_t buffer[SESSION_MAX];
+
+/* ---- Chance ---- */
+
+/* splitmix64 */
+static uint64_t next_random(generator *g)
+{
+    uint64_t z = g->random += 0x9E3779B97F4A7C15u;
+    z = (z ^ z >> 30) * 0xBF58476D1CE4E5B9u;
+    z = (z ^ z >> 27) * 0x94D049BB133111EBu;
+    return z ^ z >> 31;
+}
+
+static unsigned below(generator *g, unsigned n)
+{
+    return (unsigned)(next_random(g) >> 33) % n;
+}
+
+static bool chance(generator *g, unsigned percent)
+{
+    return below(g, 100) < percent;
+}
+
+static uint32_t one_of(generator *g, const uint32_t *list, size_t count)
+{
+    return list[below(g, (unsigned)count)];
+}
+
+#define ONE_OF(g, ...) one_of((g), (const uint32_t[]){__VA_ARGS__}, sizeof((const uint32_t[]){__VA_ARGS__}) / sizeof(uint32_t))
+
+/* ---- Records ---- */
+
+static void put(generator *g, const uint8_t *bytes, size_t count)
+{
+    if (g->len + count > SESSION_MAX) return;
+    memcpy(g->bytes + g->len, bytes, count);
+    g->len += count;
+}
+
+#define PUT(g, ...) put((g), (const uint8_t[]){__VA_ARGS__}, sizeof((const uint8_t[]){__VA_ARGS__}))
+
+static void put_in(generator *g, unsigned number, unsigned type, unsigned resolution)
+{
+    PUT(g, 'I', 'N', (uint8_t)number, (uint8_t)type, (uint8_t)resolution);
+}
+
+static void put_sa(generator *g, unsigned number, unsigned status, uint32_t value)
+{
+    PUT(g, 'S', 'A', (uint8_t)number, (uint8_t)status, (uint8_t)(value >> 16), (uint8_t)(value >> 8), (uint8_t)value);
+}
+
+static void put_fr(generator *g, unsigned byte1, unsigned byte2, unsigned byte3)
+{
+    PUT(g, 'F', 'R', (uint8_t)byte1, (uint8_t)byte2, (uint8_t)byte3);
+}
+
+/* A TK of as many ticks as the session may still cost. */
+static void put_tk(generator *g, unsigned count)
+{
+    unsigned cost = g->declared > 0 ? g->declared : 1;
+    if (count > g->work_left / cost) count = g->work_left / cost;
+    if (count == 0) return;
+    g->work_left -= count * cost;
+    PUT(g, 'T', 'K', (uint8_t)(count >> 8), (uint8_t)count);
+}
+
+/* A frame to an instance, by one of the two first bytes that count. */
+static void put_command(generator *g, unsigned number, unsigned opcode)
+{
+    put_fr(g, chance(g, 75) ? 0x01 : 0xFF, number, opcode);
+}
+
+/* ---- Instances ---- */
+
+static void declare(generator *g, unsigned type, unsigned resolution)
+{
+    bool light = type == LIGHT;
+    uint32_t hundredth = (1u << resolution) / 100;
+    uint8_t least = (uint8_t)(hundredth > 255 ? 255 : hundredth);
+    g->instance[g->declared] = (sketch){
+        .type = (uint8_t)type,
+        .resolution = (uint8_t)resolution,
+        .hysteresis = 5,
+        .hysteresis_min = least,
+        .deadtime = light ? 30 : 2,
+        .report = light ? 30 : 20,
+    };
+    put_in(g, g->declared, type, resolution);
+    g->declared++;
+}
+
+static void declare_any(generator *g, unsigned count)
+{
+    for (unsigned i = 0; i < count; i++) {
+        if (chance(g, 45)) declare(g, OCCUPANCY, 2);
+        else declare(g, LIGHT, 1 + below(g, 24));
+    }
+}
+
+static unsigned any_instance(generator *g)
+{
+    return g->declared > 0 ? below(g, g->declared) : 0;
+}
+
+/* ---- Samples ---- */
+
+static uint32_t light_most(const sketch *s)
+{
+    return (1u << s->resolution) - 2;
+}
+
+/* A value at an end of the range, or about an edge of a band that begins at the base. */
+static uint32_t light_value(generator *g, sketch *s)
+{
+    int64_t most = light_most(s);
+    int64_t share = (int64_t)s->base * s->hysteresis / 100;
+    int64_t width = share > s->hysteresis_min ? share : s->hysteresis_min;
+    int64_t value = s->base;
+    switch (below(g, 8)) {
+    case 0: value = (int64_t)ONE_OF(g, 0, 0, 1, 99, 100); break;
+    case 1: value = most - below(g, 2); break;
+    case 2: value = (int64_t)(next_random(g) % (uint64_t)(most + 1)); break;
+    case 3: case 4: value += width + below(g, 3) - 1; break;
+    case 5: case 6: value -= width + below(g, 3) - 1; break;
+    default: value += below(g, 3) - 1; break;
+    }
+    value = value < 0 ? 0 : value > most ? most : value;
+    if (chance(g, 60)) s->base = (uint32_t)value;
+    return (uint32_t)value;
+}
+
+static void sample(generator *g, unsigned number)
+{
+    sketch *s = &g->instance[number];
+    bool light = s->type == LIGHT;
+    if (chance(g, 8)) put_sa(g, number, light && chance(g, 50) ? 1 : 2, 0);
+    else put_sa(g, number, 0, light ? light_value(g, s) : below(g, 4));
+}
+
+/* ---- Settings and queries ---- */
+
+static uint8_t telling_dtr0(generator *g, unsigned opcode)
+{
+    switch (opcode) {
+    case 0x22: case 0x30: return (uint8_t)ONE_OF(g, 0, 0, 1, 1, 1, 2, 3, 255);
+    case 0x23: case 0x32: return (uint8_t)ONE_OF(g, 0, 0, 1, 2, 3, 19, 20, 21, 45, 255);
+    case 0x31: return (uint8_t)ONE_OF(g, 0, 1, 5, 10, 24, 25, 26, 255);
+    case 0x33: return (uint8_t)ONE_OF(g, 0, 1, 2, 5, 10, 100, 254, 255);
+    case 0x61: return (uint8_t)ONE_OF(g, 0, 1, 2, 3, 4, 5, 6, 255);
+    case 0x68: return (uint8_t)(below(g, chance(g, 70) ? 32 : 256) | below(g, 2));
+    }
+    return (uint8_t)below(g, 256);
+}
+
+static void remember(sketch *s, unsigned opcode, uint8_t dtr0)
+{
+    switch (opcode) {
+    case 0x22: case 0x30: s->report = dtr0; break;
+    case 0x23: case 0x32: s->deadtime = dtr0; break;
+    case 0x31: s->hysteresis = dtr0; break;
+    case 0x33: s->hysteresis_min = dtr0; break;
+    }
+}
+
+static void load_dtr0(generator *g, uint8_t dtr0)
+{
+    g->dtr0 = dtr0;
+    put_fr(g, 0xC1, 0x30, dtr0);
+}
+
+static void set_to(generator *g, unsigned number, unsigned opcode, uint8_t dtr0)
+{
+    load_dtr0(g, dtr0);
+    put_command(g, number, opcode);
+    remember(&g->instance[number], opcode, dtr0);
+}
+
+/* The opcodes by which an instance's type sets its times. */
+static unsigned report_opcode(const sketch *s) { return s->type == LIGHT ? 0x30 : 0x22; }
+static unsigned deadtime_opcode(const sketch *s) { return s->type == LIGHT ? 0x32 : 0x23; }
+
+static void set_times(generator *g, unsigned number, uint8_t deadtime, uint8_t report)
+{
+    set_to(g, number, deadtime_opcode(&g->instance[number]), deadtime);
+    set_to(g, number, report_opcode(&g->instance[number]), report);
+}
+
+/* A setting command, most often one of the instance's type, after a new DTR0 or with what DTR0 holds. */
+static void set_something(generator *g, unsigned number)
+{
+    bool light = (g->instance[number].type == LIGHT) == chance(g, 92);
+    unsigned opcode = light ? ONE_OF(g, 0x30, 0x31, 0x32, 0x33, 0x61, 0x68) : ONE_OF(g, 0x22, 0x23, 0x61, 0x68);
+    if (chance(g, 85)) load_dtr0(g, telling_dtr0(g, opcode));
+    put_command(g, number, opcode);
+    remember(&g->instance[number], opcode, g->dtr0);
+}
+
+static unsigned any_query(generator *g)
+{
+    return ONE_OF(g, 0x80, 0x81, 0x82, 0x83, 0x84, 0x86, 0x8C, 0x8D, 0x90, 0x2C, 0x2E, 0x3C, 0x3D, 0x3E, 0x3F);
+}
+
+/* The whole input value, or more of it than there is. */
+static void query_value(generator *g, unsigned number)
+{
+    put_command(g, number, 0x8C);
+    for (unsigned i = below(g, 5); i > 0; i--) put_command(g, number, 0x8D);
+}
+
+/* ---- Steps: what a session is made of ---- */
+
+static void step_sample(generator *g)
+{
+    sample(g, any_instance(g));
+}
+
+/* New samples, and the few ticks that take them. */
+static void step_move(generator *g)
+{
+    if (chance(g, 50)) step_sample(g);
+    else for (unsigned i = 0; i < g->declared; i++) sample(g, i);
+    put_tk(g, ONE_OF(g, 1, 1, 1, 2, 3));
+}
+
+static void step_set(generator *g)
+{
+    set_something(g, any_instance(g));
+}
+
+static void step_switch(generator *g)
+{
+    put_command(g, any_instance(g), chance(g, 70) ? 0x62 : 0x63);
+}
+
+static void step_query(generator *g)
+{
+    unsigned number = any_instance(g);
+    if (chance(g, 40)) query_value(g, number);
+    else put_command(g, number, any_query(g));
+}
+
+/* Two input values read at once, with a change of the value between the bytes. */
+static void step_latches(generator *g)
+{
+    unsigned number = any_instance(g);
+    put_command(g, number, 0x8C);
+    put_command(g, any_instance(g), chance(g, 50) ? 0x8C : 0x8D);
+    if (chance(g, 50)) sample(g, number);
+    if (chance(g, 50)) put_tk(g, 1);
+    put_command(g, number, 0x8D);
+    put_command(g, number, 0x8D);
+}
+
+/* Ticks about the end of one of an instance's timers. */
+static void step_ticks(generator *g)
+{
+    const sketch *s = &g->instance[any_instance(g)];
+    unsigned report = 20u * s->report, end = chance(g, 50) ? s->deadtime : report > s->deadtime ? report : s->deadtime;
+    put_tk(g, chance(g, 30) ? 1 + below(g, 8) : end + below(g, 3) - (end > 0));
+}
+
+/* A report held back until it is due, and then let go together with a change or without. */
+static void step_hold(generator *g)
+{
+    unsigned number = any_instance(g);
+    const sketch *s = &g->instance[number];
+    unsigned how = below(g, 3);
+    if (how == 0) put_command(g, number, 0x63);
+    if (how == 1) set_to(g, number, 0x68, (uint8_t)ONE_OF(g, 0, 0, 3, 8));
+    if (how == 2) put_sa(g, number, 2, 0);
+    put_tk(g, (s->report > 0 && s->report < 4 ? 20u * s->report : 20u) + below(g, 40));
+    if (how != 2 && chance(g, 60)) sample(g, number);
+    if (chance(g, 25)) put_tk(g, 1);
+    if (chance(g, 20)) set_to(g, number, report_opcode(s), (uint8_t)ONE_OF(g, 0, 1, 2));
+    if (how == 0) put_command(g, number, 0x62);
+    if (how == 1) set_to(g, number, 0x68, (uint8_t)ONE_OF(g, 1, 5, 7, 0x1F));
+    if (how == 2) sample(g, number);
+    put_tk(g, 1 + below(g, 3));
+}
+
+/* Light that sends by its report alone for a time: what band has it afterwards? */
+static void step_mute(generator *g)
+{
+    unsigned number = any_instance(g);
+    set_to(g, number, 0x31, 0);
+    if (chance(g, 30)) put_sa(g, number, 2, 0), put_tk(g, 1);
+    sample(g, number);
+    put_tk(g, 21 + below(g, 20));
+    if (chance(g, 50)) sample(g, number);
+    set_to(g, number, 0x31, (uint8_t)ONE_OF(g, 1, 10, 25));
+    put_tk(g, 2);
+}
+
+/* Frames that mostly do not count: other addresses, undeclared instances, any opcode. */
+static void step_noise(generator *g)
+{
+    unsigned byte1 = chance(g, 50) ? ONE_OF(g, 0x00, 0x02, 0x03, 0xFD, 0xFE, 0xC1) : ONE_OF(g, 0x01, 0xFF);
+    unsigned byte2 = any_instance(g) + ONE_OF(g, 0, 0, 16, 32, 128, g->declared);
+    put_fr(g, byte1, byte2, chance(g, 50) ? any_query(g) : below(g, 256));
+}
+
+/* ---- Bad records ---- */
+
+/* A type or a resolution that is not modelled, or a number that is not the next. */
+static void bad_in(generator *g)
+{
+    unsigned number = chance(g, 70) ? g->declared : below(g, 18);
+    switch (below(g, 3)) {
+    case 0: put_in(g, number, OCCUPANCY, ONE_OF(g, 0, 1, 2, 3, 24)); break;
+    case 1: put_in(g, number, LIGHT, ONE_OF(g, 0, 1, 24, 25, 255)); break;
+    default: put_in(g, number, ONE_OF(g, 0, 1, 2, 5, 255), ONE_OF(g, 2, 8)); break;
+    }
+}
+
+/* A sample with one thing wrong, or for an instance that may not be there. */
+static void bad_sa(generator *g)
+{
+    unsigned number = any_instance(g);
+    const sketch *s = &g->instance[number];
+    switch (below(g, 7)) {
+    case 0: put_sa(g, g->declared + below(g, 2) * 16, ONE_OF(g, 0, 1, 2, 3, 255), below(g, 5)); break;
+    case 1: put_sa(g, number, ONE_OF(g, 3, 4, 255), 0); break;
+    case 2: put_sa(g, number, 1, 0); break;
+    case 3: put_sa(g, number, 1 + below(g, 2), ONE_OF(g, 1, 0x100, 0x10000, 0xFFFFFF)); break;
+    default: put_sa(g, number, 0, s->type == LIGHT ? light_most(s) + ONE_OF(g, 0, 1, 1, 2) : 3 + below(g, 2)); break;
+    }
+}
+
+static void bad_mark(generator *g)
+{
+    static const char marks[] = "INSAFRTKEVANXX";
+    unsigned at = below(g, sizeof marks - 2);
+    PUT(g, (uint8_t)marks[at], (uint8_t)marks[at + 1]);
+    for (unsigned i = below(g, 4); i > 0; i--) PUT(g, (uint8_t)below(g, 3));
+    if (chance(g, 50)) g->work_left = 0;
+}
+
+/* A record that is refused more often than not, and sometimes the session ends in it: then no work is left. */
+static void step_bad(generator *g)
+{
+    size_t start = g->len;
+    switch (below(g, 10)) {
+    case 0: case 1: bad_in(g); break;
+    case 2: bad_mark(g); break;
+    case 3: PUT(g, 'T', 'K', 0, (uint8_t)below(g, 2)); break;
+    default: bad_sa(g); break;
+    }
+    if (chance(g, 20)) {
+        g->len = start + 1 + below(g, (unsigned)(g->len - start));
+        g->work_left = 0;
+    }
+}
+
+/* ---- Profiles ---- */
+
+typedef void (*step)(generator *);
+
+/* So many steps, chosen from a list in which a step may stand more than once. */
+static void mix(generator *g, unsigned count, const step *steps, size_t choices)
+{
+    while (count-- > 0 && g->work_left > 0) steps[below(g, (unsigned)choices)](g);
+}
+
+#define MIX(g, count, ...) mix((g), (count), (const step[]){__VA_ARGS__}, sizeof((const step[]){__VA_ARGS__}) / sizeof(step))
+
+static void mixed_traffic(generator *g)
+{
+    declare_any(g, chance(g, 80) ? 1 + below(g, 4) : 1 + below(g, 16));
+    for (unsigned i = 0; i < g->declared; i++) if (chance(g, 50)) set_something(g, i);
+    MIX(g, 30 + below(g, 40), step_sample, step_move, step_move, step_set, step_set, step_switch, step_query, step_query,
+        step_latches, step_ticks, step_ticks, step_hold, step_noise);
+}
+
+static void band_edges(generator *g)
+{
+    unsigned count = 1 + below(g, 2);
+    for (unsigned i = 0; i < count; i++) declare(g, LIGHT, 1 + below(g, 24));
+    for (unsigned i = 0; i < count; i++) {
+        set_times(g, i, (uint8_t)ONE_OF(g, 0, 0, 1), (uint8_t)ONE_OF(g, 0, 1, 30));
+        if (chance(g, 60)) set_to(g, i, 0x33, (uint8_t)ONE_OF(g, 0, 0, 1, 2, 10, 255));
+        if (chance(g, 60)) set_to(g, i, 0x31, telling_dtr0(g, 0x31));
+        sample(g, i);
+    }
+    MIX(g, 20 + below(g, 20), step_move, step_move, step_move, step_move, step_move, step_move, step_set, step_ticks, step_hold,
+        step_mute, step_query);
+}
+
+static void occupancy_filters(generator *g)
+{
+    unsigned count = 1 + below(g, 3);
+    for (unsigned i = 0; i < count; i++) declare(g, OCCUPANCY, 2);
+    for (unsigned i = 0; i < count; i++) {
+        set_to(g, i, 0x68, (uint8_t)below(g, 32));
+        if (chance(g, 70)) set_times(g, i, (uint8_t)ONE_OF(g, 0, 1, 2, 5), (uint8_t)ONE_OF(g, 0, 1, 1));
+    }
+    MIX(g, 20 + below(g, 20), step_move, step_move, step_move, step_move, step_sample, step_switch, step_set, step_ticks, step_hold,
+        step_query);
+}
+
+static void timer_ends(generator *g)
+{
+    declare_any(g, 1 + below(g, 2));
+    for (unsigned i = 0; i < g->declared; i++) {
+        uint8_t deadtime = telling_dtr0(g, 0x23), report = telling_dtr0(g, 0x22);
+        if (g->instance[i].type == OCCUPANCY) set_to(g, i, 0x68, (uint8_t)(chance(g, 70) ? 4 + below(g, 4) : 0x1F));
+        if (chance(g, 85)) set_times(g, i, deadtime, report);
+        sample(g, i);
+    }
+    MIX(g, 12 + below(g, 12), step_move, step_sample, step_set, step_ticks, step_ticks, step_ticks, step_hold);
+}
+
+static void long_quiet(generator *g)
+{
+    declare_any(g, 1 + below(g, 2));
+    for (unsigned i = 0; i < g->declared; i++) {
+        if (g->instance[i].type == OCCUPANCY) set_to(g, i, 0x68, (uint8_t)below(g, 32));
+        sample(g, i);
+    }
+    for (unsigned i = 1 + below(g, 4); i > 0; i--) {
+        put_tk(g, 300 + below(g, 3000));
+        step_sample(g);
+        step_query(g);
+    }
+    put_tk(g, 700);
+}
+
+/* Bytes changed anywhere, or taken out. */
+static void damage(generator *g)
+{
+    if (g->len == 0) return;
+    size_t at = below(g, (unsigned)g->len);
+    switch (below(g, 3)) {
+    case 0: g->bytes[at] = (uint8_t)below(g, 256); break;
+    case 1: g->len = at; break;
+    default:
+        memmove(g->bytes + at, g->bytes + at + 1, g->len - at - 1);
+        g->len--;
+    }
+}
+
+static void damaged(generator *g)
+{
+    g->work_left = 400;
+    if (chance(g, 5)) for (unsigned i = below(g, 40); i > 0; i--) PUT(g, (uint8_t)below(g, 256));
+    if (chance(g, 10)) declare_any(g, INSTANCES - below(g, 2));
+    else declare_any(g, below(g, 4));
+    if (chance(g, 25)) bad_in(g);
+    MIX(g, below(g, 6), step_move, step_query, step_bad, step_noise, step_set);
+    MIX(g, 1 + below(g, 4), step_bad);
+    if (chance(g, 30)) damage(g);
+}
+
+/* Many events in one tick, and more inside a TK, for outputs that are too short. */
+static void short_output(generator *g)
+{
+    declare_any(g, 1 + below(g, chance(g, 30) ? INSTANCES : 4));
+    for (unsigned i = 0; i < g->declared; i++) set_times(g, i, (uint8_t)ONE_OF(g, 0, 1, 2, 21), (uint8_t)ONE_OF(g, 1, 1, 2));
+    MIX(g, 10 + below(g, 15), step_move, step_move, step_query, step_query, step_latches, step_ticks, step_ticks, step_hold);
+}
+
+/* Traffic up to the last tick number and past it: some TK of the row is refused with 8, or the last one ends at the last number. */
+static void last_ticks(generator *g, test_case *c)
+{
+    unsigned left = below(g, 300);
+    c->start_tick = 4294967295u - left;
+    declare_any(g, below(g, 3));
+    if (chance(g, 50)) MIX(g, below(g, 6), step_move, step_query, step_set, step_noise);
+    for (unsigned i = 1 + below(g, 4); i > 0; i--) {
+        unsigned count = chance(g, 60) ? 1 + below(g, left + 1) : ONE_OF(g, left, left + 1, 65535);
+        put_tk(g, count);
+        step_noise(g);
+        left -= count < left ? count : left;
+    }
+    put_tk(g, left);
+    put_tk(g, below(g, 2));
+}
+
+/* Tick numbers whose four bytes all tell. */
+static void far_ticks(generator *g, test_case *c)
+{
+    c->start_tick = (1 + below(g, 0xFFFE)) << 16 | below(g, 0x10000);
+    mixed_traffic(g);
+}
+
+/* Of a hundred seeds in a row, how many go to each profile. */
+static char profile_of(uint64_t seed)
+{
+    static const struct { unsigned up_to; char profile; } shares[] = {
+        {18, 'a'}, {35, 'b'}, {52, 'c'}, {67, 'd'}, {70, 'e'}, {82, 'f'}, {94, 'g'}, {98, 'h'}, {100, 'i'},
+    };
+    unsigned place = (unsigned)(seed * 37 % 100), i = 0;
+    while (place >= shares[i].up_to) i++;
+    return shares[i].profile;
+}
+
+test_case generate(uint64_t seed, char profile)
+{
+    test_case c = {.seed = seed, .profile = profile != 0 ? profile : profile_of(seed), .log_len = GENERATOR_LOG_MAX};
+    generator g = {.random = seed * 0xD1342543DE82EF95u + (uint64_t)c.profile, .bytes = buffer, .work_left = 4000};
+    switch (c.profile) {
+    case 'a': mixed_traffic(&g); break;
+    case 'b': band_edges(&g); break;
+    case 'c': occupancy_filters(&g); break;
+    case 'd': timer_ends(&g); break;
+    case 'e': g.work_left = 10000; long_quiet(&g); break;
+    case 'f': damaged(&g); break;
+    case 'g': c.log_len = below(&g, 401); short_output(&g); break;
+    case 'h': last_ticks(&g, &c); break;
+    default: far_ticks(&g, &c); break;
+    }
+    c.session = buffer;
+    c.session_len = g.len;
+    return c;
+}

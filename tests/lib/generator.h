@@ -1,0 +1,33 @@
+/* Sessions from a seed, for the comparison of two implementations. The same seed and profile give the same session everywhere. */
+#ifndef GENERATOR_H
+#define GENERATOR_H
+
+#include <stddef.h>
+#include <stdint.h>
+
+/* Profiles:
+ *   a  mixed traffic of 1 to 16 instances
+ *   b  light: values at the band's edges, at every resolution
+ *   c  occupancy: all filters
+ *   d  timers at their ends
+ *   e  long quiet runs
+ *   f  damaged, cut and random bytes
+ *   g  outputs of 0 to 400 bytes
+ *   h  ticks near 4,294,967,295
+ *   i  tick numbers of four bytes
+ */
+typedef struct {
+    uint64_t seed;
+    char profile;
+    const uint8_t *session; /* stands until the next case is generated */
+    size_t session_len;
+    size_t log_len;
+    uint32_t start_tick; /* the tick number that the model begins with; 0 but for profiles h and i */
+} test_case;
+
+enum { GENERATOR_LOG_MAX = 4096 };
+
+/* The profile is one of a to i, or 0: the seed chooses. */
+test_case generate(uint64_t seed, char profile);
+
+#endif

@@ -1,0 +1,130 @@
+/* Wrong models: each is the second implementation with one deliberate fault. A fault has a number (its place here, from 1), a name
+ * in the code and a name to print. They exist only where SECOND_FAULTS is defined. */
+#ifndef SECOND_FAULTS_H
+#define SECOND_FAULTS_H
+
+#define SECOND_FAULT_LIST(X) \
+    /* Findings from earlier models */ \
+    X(BAND_ON_PADDED, "hysteresis taken on the padded inputValue") \
+    X(BAND_CENTRED, "band centred on v") \
+    X(BAND_MOVED_INSIDE, "band moved by a report inside it") \
+    X(DEAD_TIME_LATE, "dead time ends one tick late") \
+    X(DEAD_TIME_FORGETS, "occupancy change during dead time forgotten") \
+    X(DTR0_PER_INSTANCE, "DTR0 kept per instance, loaded for the first alone") \
+    /* Session and log records, Numbers */ \
+    X(ONE_BEFORE_TWO, "cut mark is unknown: 1 before 2") \
+    X(TWO_BEFORE_ONE, "unknown mark near the end is cut: 2 before 1") \
+    X(THREE_BEFORE_TWO, "cut IN is late: 3 before 2") \
+    X(FOUR_BEFORE_THREE, "late IN is not modelled: 4 before 3") \
+    X(SIX_BEFORE_FIVE, "undeclared SA has a bad status: 6 before 5") \
+    X(LATE_IN_TAKEN, "IN after a record of another kind taken") \
+    X(FRAME_NOT_ANOTHER_KIND, "IN after FR taken") \
+    X(FIFTEEN_INSTANCES, "IN number 15 refused") \
+    X(OCCUPANCY_ANY_RESOLUTION, "occupancy with resolution 1 taken") \
+    X(RESOLUTION_24_REFUSED, "light with resolution 24 refused") \
+    X(MASK_MEASURED, "light value 2^resolution - 1 taken") \
+    X(OCCUPANCY_NOT_READY, "occupancy status 1 taken") \
+    X(FAILURE_WITH_VALUE, "value other than 0 taken with status 2") \
+    X(COUNT_0_TAKEN, "TK count 0 taken") \
+    X(LAST_TICK_REFUSED, "tick number 4,294,967,295 refused") \
+    X(LAST_TICK_PASSED, "tick number starts again at 0 after the last") \
+    X(LIMIT_INSIDE_TK, "TK past the last tick carried out up to it") \
+    X(FULL_LEAVES_EVENTS, "tick without room leaves its first events") \
+    X(FULL_SCRIBBLES, "tick without room writes past the log") \
+    X(FULL_KEEPS_STATE, "tick without room keeps its state") \
+    X(FULL_TICKS_OFF_BY_ONE, "ticks carried out count the one without room") \
+    X(FULL_UNDOES_TK, "no room inside a TK undoes the whole TK") \
+    X(FULL_BY_INSTANCES, "room wanted for an event of every instance") \
+    X(FULL_BYTE_EARLY, "the last byte of the output not used") \
+    X(REFUSED_QUERY_LATCHES, "query without room latches") \
+    X(FIRST_TICK_ALONE, "only the first tick of a TK worked") \
+    X(SAMPLE_AT_ONCE, "sample taken at once, not at the next tick") \
+    /* Widths */ \
+    X(ZERO_PADDED, "inputValue padded with zeros") \
+    X(NOT_SHIFTED, "inputValue is the measured value, not widened") \
+    X(BYTE_TOO_MANY, "a byte too many at resolutions 8, 16 and 24") \
+    X(INFORMATION_LOW_BITS, "information from the low ten bits") \
+    X(INFORMATION_ZERO_PADDED, "information padded with zeros") \
+    X(MASK_MISSING, "MASK missing: the last value shown") \
+    X(MASK_ONLY_FAILED, "MASK missing for status 1") \
+    X(FAILURE_CLEARS_VALUE, "failure clears the occupancy value") \
+    /* Each type carries its own defaults */ \
+    X(DEADTIME_OF_LIGHT, "occupancy starts with light's deadtime") \
+    X(REPORT_OF_LIGHT, "occupancy starts with light's report") \
+    X(FILTER_OF_LIGHT, "occupancy starts with light's filter") \
+    X(MIN_ROUNDED_UP, "hysteresisMin rounded up at start") \
+    X(MIN_NOT_LIMITED, "hysteresisMin not held at 255 at start") \
+    X(STARTS_WITHOUT_REPORT, "report timer not started at start") \
+    X(STARTS_IN_DEAD_TIME, "dead time runs at start") \
+    /* Frames */ \
+    X(PRIORITY_LOW_TAKEN, "priorities 0 and 1 taken") \
+    X(PRIORITY_HIGH_TAKEN, "priorities above 5 taken") \
+    X(PRIORITY_5_REFUSED, "priority 5 not taken") \
+    X(HYSTERESIS_HIGH_TAKEN, "hysteresis above 25 taken") \
+    X(HYSTERESIS_25_REFUSED, "hysteresis 25 not taken") \
+    X(FILTER_NOT_MASKED, "filter bits that are not kept, kept") \
+    X(LIGHT_OBEYS_OCCUPANCY, "light obeys occupancy opcodes") \
+    X(OCCUPANCY_OBEYS_LIGHT, "occupancy obeys light opcodes") \
+    X(ALL_ADDRESS_IGNORED, "byte 1 FF ignored") \
+    X(OTHER_ADDRESS_OBEYED, "byte 1 03 obeyed") \
+    X(INSTANCE_BYTE_MASKED, "byte 2 read without its high bits") \
+    X(NOT_READY_IS_ERROR, "status 1 answered as an error") \
+    X(NO_ERROR_ANSWERED, "error byte 0 answered") \
+    X(STATUS_BITS_SWAPPED, "status bits swapped") \
+    X(DISABLED_ANSWERED, "enabled query answers 0 when disabled") \
+    X(LATCH_SHARED, "one latch for all instances") \
+    X(LATCH_NOT_CONSUMED, "latched byte not consumed") \
+    X(LATCH_USED_UP_ANSWERS, "8D answers after the latch is used up") \
+    X(LATCH_LIVE, "8D answers from the value of now") \
+    /* Timers */ \
+    X(REPORT_BELOW_DEAD_TIME, "report not held at dead time") \
+    X(REPORT_RESTARTED_BY_SET, "new report time serves at once") \
+    X(DUE_IS_STOPPED, "report set while due starts the timer") \
+    X(DEAD_TIME_SET_AT_ONCE, "new dead time serves at once") \
+    X(DEAD_TIME_0_STOPS, "deadtime set to 0 ends the running dead time") \
+    X(REPORT_0_RUNS_ON, "report set to 0 does not stop the timer") \
+    X(REPORT_0_STAYS_DUE, "report set to 0 leaves a due report due") \
+    X(STOPPED_NOT_STARTED, "report set above 0 does not start a stopped timer") \
+    X(DUE_PASSES, "due report does not stay due") \
+    X(CHANGE_KEEPS_REPORT, "event by change does not start the report timer") \
+    X(REPORT_NO_DEAD_TIME, "event by report does not start dead time") \
+    X(TIMERS_REST_DISABLED, "timers stand still while disabled") \
+    X(ENABLE_STARTS_REPORT, "enabling starts the report timer") \
+    /* One tick */ \
+    X(PRIORITY_5_WHEN_DUE, "priority 5 whenever a report is due") \
+    X(REPORT_OWN_PRIORITY, "report sent with the instance's priority") \
+    X(REPEAT_WHEN_DUE, "bit 2 whenever a report is due") \
+    X(INFORMATION_TICK_BEFORE, "information from the tick before") \
+    X(SENDS_DISABLED, "events sent while disabled") \
+    X(SENDS_FAILED, "report sent in a failure") \
+    X(FALLING_ORDER, "instances in falling order") \
+    X(LIGHT_REPORT_UNFILTERED, "light report sent without filter bit 0") \
+    X(REPEAT_UNFILTERED, "occupancy report sent without filter bit 2") \
+    X(REPEAT_BY_STATE, "occupancy report wants filter bit 0 or 1 too") \
+    X(HYSTERESIS_0_SENDS, "hysteresis 0 sends by the band") \
+    X(BAND_0_AT_START, "no band is a band from 0 to 0") \
+    X(BAND_EDGE_OUTSIDE, "band edges are outside the band") \
+    X(BAND_NEVER_BY_REPORT, "band not moved by a report outside it") \
+    X(BAND_WRAPS, "low below 0") \
+    X(BAND_NOT_DISCARDED, "failure keeps the band") \
+    X(BAND_KEPT_NOT_READY, "status 1 keeps the band") \
+    X(WIDTH_SMALLER, "width is the smaller of the two") \
+    X(WIDTH_ROUNDED_UP, "width rounded up") \
+    X(ONE_TRIGGER, "two changes at once give one trigger") \
+    X(FILTER_WHEN_SENT, "trigger without its filter bit waits") \
+    X(NEW_FILTER_KEEPS, "new filter does not drop waiting triggers") \
+    X(DISABLING_KEEPS, "disabling keeps waiting triggers") \
+    X(FAILURE_KEEPS, "failure keeps waiting triggers") \
+    X(DISABLED_WAITS, "trigger in a disabled time waits") \
+    X(DISABLED_NOT_COMPARED, "old value not followed while disabled") \
+    X(EVENT_KEEPS_WAITING, "event clears one waiting trigger")
+
+enum {
+    NO_FAULT,
+#define X(name, text) name,
+    SECOND_FAULT_LIST(X)
+#undef X
+    FAULTS_END
+};
+
+#endif
