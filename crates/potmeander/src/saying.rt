@@ -1,0 +1,96 @@
+// The line on standard error: what was read and logged; the record that was refused, if one was; the read or write that failed, if one did.
+use crate::reading::Came;
+use crate::reading::Progress;
+use crate::reading::is_over;
+use libc::STDERR_FILENO;
+
+pub fn say(p: Progress) {
+    write(b"potmeander: ");
+    count(p.records, b" record");
+    write(b", ");
+    count(p.passed, b" byte");
+    write(b" read; ");
+    count(p.model.tick as u64, b" tick");
+    write(b"; ");
+    count(p.logged, b" byte");
+    write(b" logged");
+    refusal(p);
+    failure(p);
+    write(b"\n");
+}
+
+// A record that is cut is refused once no more input can come.
+fn refusal(p: Progress) {
+    let came = p.came;
+    match came {
+        Came::End => refused(p.number, p.passed),
+        Came::Bytes => refused_for_good(p.number, p.passed),
+        Came::Failure => refused_for_good(p.number, p.passed),
+    }
+}
+
+fn refused_for_good(number: u8, offset: u64) {
+    if is_over(number) {
+        refused(number, offset);
+    }
+}
+
+fn refused(number: u8, offset: u64) {
+    if number > 0 {
+        write(b"; record refused at byte ");
+        io::print_decimal(STDERR_FILENO, offset);
+        write(b": ");
+        io::print_decimal(STDERR_FILENO, number as u64);
+        meaning(number);
+    }
+}
+
+// Document 01, "Numbers given when a record is not taken".
+fn meaning(number: u8) {
+    match number {
+        1 => write(b", mark unknown"),
+        2 => write(b", fewer bytes remain than the mark, or the record, needs"),
+        3 => write(b", IN after a record of another kind, or its number isn't the next"),
+        4 => write(b", IN number 16 or above, or a type and resolution not modelled"),
+        5 => write(b", SA for an undeclared instance"),
+        6 => write(b", SA status or value not allowed"),
+        7 => write(b", TK count 0"),
+        8 => write(b", tick number would pass 4,294,967,295"),
+        _ => write(b", its log doesn't fit in the output"),
+    }
+}
+
+fn failure(p: Progress) {
+    let came = p.came;
+    match came {
+        Came::Failure => read_failure(std::num::wrapping_add_u64(p.passed, p.unread as u64)),
+        Came::Bytes => write_failure(p.lost),
+        Came::End => write_failure(p.lost),
+    }
+}
+
+fn read_failure(after: u64) {
+    write(b"; reading the session failed after ");
+    count(after, b" byte");
+}
+
+fn write_failure(lost: u64) {
+    if lost > 0 {
+        write(b"; writing the log failed, ");
+        count(lost, b" byte");
+        write(b" of it lost");
+    }
+}
+
+// A number and what it counts.
+fn count(n: u64, noun: &[u8]) {
+    io::print_decimal(STDERR_FILENO, n);
+    write(noun);
+    if n != 1 {
+        write(b"s");
+    }
+}
+
+fn write(words: &[u8]) {
+    io::write_all(STDERR_FILENO, words);
+}

@@ -1,0 +1,3 @@
+mod Counts
+pub mod Moves
+pub mod Turns

@@ -1,0 +1,161 @@
+// Reading a session in pieces, through buffers that are shorter than it (document 01, "The bench model"): one turn reads what is held,
+// keeps what is unread at the front of the input buffer, and its number says what must come before the next.
+use bench::Model;
+ghost use Prim.Native.Nat.{_*_, _+_, _-_, _≤_, min};
+ghost use Rattle.record.specs.Put.{put};
+ghost use Rattle.session.specs.Asked.{markOf};
+ghost use Rattle.stream.specs.Stream.{counted, inputAfter, nextAfter, outputAfter, remaining, sizeAt, sizeBy, turnTaken};
+ghost use lib.ListN.{length};
+ghost use lib.Seq.{slice};
+ghost use mathlib.Core.Path.{_≡_};
+
+// What must come before the next turn: more input; an emptied output; nothing, since a record is refused for good.
+pub enum Next {
+    MoreInput,
+    EmptiedOutput,
+    Over,
+}
+
+// What a turn came to. records, passed: the records taken whole, and their bytes. unread: the bytes at the front of the input buffer that
+// the next turn begins with. written: the bytes of log at the front of the output.
+pub struct Turn {
+    pub model: Model,
+    pub number: u8,
+    pub records: u64,
+    pub passed: usize,
+    pub unread: usize,
+    pub written: usize,
+}
+
+// After 2 it goes on with more input, after 9 with an emptied output. After 0 all was read, and more may come.
+pub fn next_after(number: u8) -> Next
+    ensures { λ r. ⌜ r ≡ nextAfter number ⌝ }
+{
+    match number {
+        0 => Next::MoreInput,
+        2 => Next::MoreInput,
+        9 => Next::EmptiedOutput,
+        _ => Next::Over,
+    }
+}
+
+// Reads the first `have` bytes of the input buffer, and moves what is unread of them to its front: inside a TK, a TK of the ticks that
+// remain.
+pub fn take_turn(model: Model, input: &mut [u8], have: usize, output: &mut [u8]) -> Turn
+    ensures { λ r. ⌜ (r ≡ turnTaken model have (now (input .entry)) (now (output .entry))) × (now (input .exit) ≡ inputAfter model have (now (input .entry)) (now (output .entry))) × (now (output .exit) ≡ outputAfter model have (now (input .entry)) (now (output .entry))) ⌝ }
+{
+    let end = least(have, input.len());
+    let o = session::read(model, &input[0..end], output);
+    let at = o.offset;
+    let records = count(&input[0..at]);
+    keep(input, at, end, o.ticks);
+    let left = end - at;
+    let next = o.model;
+    Turn {
+        model: next,
+        number: o.number,
+        records,
+        passed: at,
+        unread: left,
+        written: o.written,
+    }
+}
+
+// The records in bytes that were taken.
+fn count(bytes: &[u8]) -> u64
+    ensures { λ r. ⌜ r ≡ counted (now (bytes .entry)) ⌝ }
+{
+    let mut at: usize = 0;
+    let mut n: u64 = 0;
+    while at < bytes.len() {
+        let size = size_at(&bytes[at..]);
+        at += size;
+        n += 1;
+    }
+    n
+}
+
+// The size of the record at the front, not more than there is.
+fn size_at(rest: &[u8]) -> usize
+    ensures { λ r. ⌜ r ≡ sizeAt (now (rest .entry)) ⌝ }
+{
+    let all = rest.len();
+    if all < 2 {
+        return all;
+    }
+    let size = size_by(word(rest[0], rest[1]), all);
+    least(size, all)
+}
+
+// IN, SA, FR, TK and their sizes.
+fn size_by(letters: u16, all: usize) -> usize
+    ensures { λ r. ⌜ r ≡ sizeBy (markOf letters) all ⌝ }
+{
+    match letters {
+        0x494E => 5,
+        0x5341 => 7,
+        0x4652 => 5,
+        0x544B => 4,
+        _ => all,
+    }
+}
+
+// Keeps what is unread, from `at` up to `end`: it goes to the front. Of its first record `done` ticks were carried out.
+fn keep(bytes: &mut [u8], at: usize, end: usize, done: u16)
+    requires { ⌜ (at ≤ end) × (end ≤ length (now bytes)) ⌝ }
+    ensures { λ _. ⌜ now (bytes .exit) ≡ put 0 (remaining done (slice at end (now (bytes .entry)))) (now (bytes .entry)) ⌝ }
+{
+    let left = end - at;
+    to_front(bytes, at, end);
+    shorten(&mut bytes[0..left], done);
+}
+
+// Moves the bytes from `start` up to `end` to the front; what lies past them keeps its place.
+fn to_front(bytes: &mut [u8], start: usize, end: usize)
+    requires { ⌜ (start ≤ end) × (end ≤ length (now bytes)) ⌝ }
+    ensures { λ _. ⌜ now (bytes .exit) ≡ put 0 (slice start end (now (bytes .entry))) (now (bytes .entry)) ⌝ }
+{
+    let mut i = 0;
+    while i < end - start {
+        bytes[i] = bytes[start + i];
+        i += 1;
+    }
+}
+
+// The record at the front was carried out for `done` ticks. Where that is above 0 it is a TK, and one of the ticks that remain takes its
+// place.
+fn shorten(rest: &mut [u8], done: u16)
+    ensures { λ _. ⌜ now (rest .exit) ≡ remaining done (now (rest .entry)) ⌝ }
+{
+    if done == 0 {
+        return;
+    }
+    if rest.len() < 4 {
+        return;
+    }
+    let left = less(word(rest[2], rest[3]), done);
+    rest[0] = b'T';
+    rest[1] = b'K';
+    rest[2] = (left / 256) as u8;
+    rest[3] = (left % 256) as u8;
+}
+
+// Two bytes, most significant first.
+fn word(high: u8, low: u8) -> u16
+    ensures { λ r. ⌜ r ≡ high * 256 + low ⌝ }
+{
+    (high as u16) * 256 + (low as u16)
+}
+
+// The ticks of n that remain.
+fn less(n: u16, done: u16) -> u16
+    ensures { λ r. ⌜ r ≡ n - done ⌝ }
+{
+    if done < n { n - done } else { 0 }
+}
+
+fn least(a: usize, b: usize) -> usize
+    ensures { λ r. ⌜ r ≡ min a b ⌝ }
+{
+    if a < b { a } else { b }
+}

@@ -1,0 +1,103 @@
+#!/bin/sh
+# Writes the sessions of this folder, record by record.
+#   examples/make.sh [FOLDER]     into FOLDER, or where this script is
+set -eu
+cd "${1:-$(dirname "$0")}"
+
+# ---- the records; numbers are decimal, or hexadecimal with 0x
+bytes() { for b in "$@"; do printf "\\$(printf %03o "$b")"; done; }
+IN() { printf IN && bytes "$1" "$2" "$3"; }                                               # instance, type, resolution
+SA() { printf SA && bytes "$1" "$2" $(($3 / 65536)) $(($3 / 256 % 256)) $(($3 % 256)); }  # instance, status, value
+FR() { printf FR && bytes "0x$1" "0x$2" "0x$3"; }                                         # the three frame bytes, in hex as in the standards
+TK() { printf TK && bytes $(($1 / 256)) $(($1 % 256)); }                                  # tick count
+
+occupancy=3 light=4
+valid=0 failed=2
+vacant=0 still=2 moving=3  # an occupancy value: bit 0 movement, bit 1 occupied
+seconds() { echo $(($1 * 20)); }
+
+# ---- document 01, "A full session, bytes in hex"
+full() {
+    IN 0 $light 8
+    SA 0 $valid 100
+    TK 1
+    SA 0 $valid 94
+    TK 40
+    FR 01 00 8C  # query the input value
+}
+
+# ---- an hour in an office, 72,000 ticks: instance 0 occupancy, instance 1 light of 10 bits
+set_to() { FR C1 30 "$1" && FR 01 "$2" "$3"; }  # DTR0 loaded, and an instance's setting set from it
+
+hour() {
+    IN 0 $occupancy 2
+    IN 1 $light 10
+    FR 01 00 80  # the types: 3,
+    FR 01 01 80  # and 4
+    set_to 07 00 68  # occupancy sends when occupied, when vacant, and repeats,
+    set_to 3C 00 22  # every 60 s at the latest;
+    set_to 3C 01 30  # light every 60 s at the latest too,
+    set_to 14 01 32  # and at most once a second
+
+    # ten minutes: nobody, dawn
+    SA 0 $valid $vacant
+    for lux in 90 92 95 99 104 110 117 125 134 144; do
+        SA 1 $valid $lux
+        TK "$(seconds 60)"
+    done
+
+    # twenty minutes at the desk, the lamp on; each minute movement for ten seconds
+    SA 1 $valid 520
+    for minute in 1 2 3 4 5 6 7 8 9 10 11 12 13 14 15 16 17 18 19 20; do
+        SA 0 $valid $moving
+        TK "$(seconds 10)"
+        SA 0 $valid $still
+        TK "$(seconds 50)"
+    done
+    FR 01 01 8C  # the light value, of two bytes:
+    FR 01 01 8D  # the second
+    FR 01 00 8C  # the occupancy value
+
+    # five minutes: the light sensor fails for one of them
+    TK "$(seconds 120)"
+    SA 1 $failed 0
+    TK "$(seconds 30)"
+    FR 01 01 82  # its error byte
+    FR 01 01 83  # its status: failed and enabled
+    FR 01 01 8C  # its value is all ones
+    TK "$(seconds 30)"
+    SA 1 $valid 525
+    TK "$(seconds 120)"
+
+    # ten minutes: occupancy's events are switched off, and on again
+    FR 01 00 63
+    SA 0 $valid $moving
+    TK "$(seconds 300)"
+    FR 01 00 86  # it does not answer that it is enabled
+    FR 01 00 62
+    FR 01 00 86  # now it does
+    TK "$(seconds 300)"
+
+    # the last quarter: the lamp off, the room empty, daylight that flickers
+    SA 1 $valid 300
+    SA 0 $valid $vacant
+    for lux in 300 330 290 305 310 350 340 342 344 346 348 350 352 354 356; do
+        SA 1 $valid $lux
+        TK "$(seconds 60)"
+    done
+    FR 01 01 3E  # the report setting
+    FR 01 01 3F  # and the hysteresis
+}
+
+# ---- one session for each refusal
+refused_1() { IN 0 $light 8 && printf XX; }                      # no such mark
+refused_2() { IN 0 $light 8 && printf 'TK\000'; }                # a record cut short
+refused_3() { IN 0 $light 8 && TK 1 && IN 1 $occupancy 2; }      # too late to declare
+refused_4() { IN 0 $light 25; }                                  # light has 1 to 24 bits
+refused_5() { IN 0 $light 8 && SA 1 $valid 100; }                # only instance 0 is there
+refused_6() { IN 0 $light 8 && SA 0 $valid 255; }                # 8 bits: 0 to 254
+refused_7() { IN 0 $light 8 && SA 0 $valid 100 && TK 1 && TK 0; }  # no ticks; what came before is logged
+
+for session in full hour refused_1 refused_2 refused_3 refused_4 refused_5 refused_6 refused_7; do
+    $session >"$session.session"
+done
