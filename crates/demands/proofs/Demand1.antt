@@ -1,0 +1,106 @@
+-- DEMAND 1: "Any bytes may be given as a session. The reading ends, and a refused record (numbers 1 to 9) changes nothing in the model and
+-- no output byte. Refusal 9 alone comes per tick: earlier ticks of that record stand, the tick that found no room does nothing."
+-- Assumes nothing.
+use Prim.Native.Nat.{ℕ, _<_, _≤_}
+use Rattle.bench.specs.Frame.{frameLog}
+use Rattle.bench.specs.declared.model.Model.{Model}
+use Rattle.demands.proofs.Full.{answer-full, full-answer, full-tick, left-off, tick-full}
+use Rattle.demands.proofs.Numbers.{given, holds-given}
+use Rattle.demands.proofs.Prefix.{bounded, prefix}
+use Rattle.demands.proofs.Table.{by-table, refused-there}
+use Rattle.demands.specs.Numbers.{Fitted, Given, LeftOff, NoRoom, NoRoomAfter, tickedLog, tickedModel}
+use Rattle.demands.specs.Stands.{output, stands, takenWhole, written}
+use Rattle.record.specs.Log.{AllBytes, Logged, bytesOf}
+use Rattle.session.proofs.Bounds.{reading-within}
+use Rattle.session.proofs.Bounds.{session-within}
+use Rattle.session.specs.Asked.{asked}
+use Rattle.session.specs.Refusals.{numberOf}
+use Rattle.session.specs.Session.{End, reading, refused, session, step}
+use Rattle.session.specs.declared.asked.Asked.the-variants.{Frame, Refused, Ticks}
+use Rattle.session.specs.declared.asked.Refusal.the-variants.{Full}
+use Rattle.session.specs.declared.asked.Refusal.{Refusal}
+use lib.ListN.{drop, length}
+use mathlib.Core.List.{List, _++_}
+use mathlib.Core.Path.{ap, _≡_}
+
+-- ---- any bytes: `session` is a function of any model, any bytes and any room, so the reading ends. r is what it gives back.
+module _ (m : Model) (xs : List ℕ) (room : ℕ) where
+  abbrev r : End
+  r = session m xs room
+
+  -- "A refused record changes nothing in the model and no output byte; earlier ticks of a record refused by 9 stand": what stands of the
+  -- session (its bytes before the refused record, and a TK of that record's ticks carried out), read from the same model with the same
+  -- room, is taken whole and leaves the same model and the same log
+  pub demand-1 : session m (stands r xs) room ≡ takenWhole (length (stands r xs)) r
+  demand-1 = prefix m xs room
+
+  pub same-model : session m (stands r xs) room .model ≡ r .model
+  same-model = ap (λ e. e .model) demand-1
+
+  -- and so the same bytes in any output
+  pub same-output : (out : List ℕ) → output (session m (stands r xs) room) out ≡ output r out
+  same-output out = ap (λ e. output e out) demand-1
+
+  -- "Refusal 9 alone comes per tick"
+  pub ticks-by-9 : 0 < r .ticks → r .number ≡ 9
+  ticks-by-9 = bounded m xs room .ticked
+
+  -- a TK counts in two bytes, and so it can count the ticks carried out
+  pub ticks-counted : AllBytes xs → r .ticks ≤ 65535
+  ticks-counted = bounded m xs room .counted
+
+  -- "numbers 1 to 9", and 0 when all records are taken
+  pub numbers : r .number ≤ 9
+  numbers = bounded m xs room .numbered
+
+  -- "the offset of the refused record (for 0 the session length)"
+  pub offset-whole : r .number ≡ 0 → r .offset ≡ length xs
+  offset-whole = bounded m xs room .whole
+
+  pub offset-refused : 0 < r .number → r .offset < length xs
+  offset-refused = bounded m xs room .before
+
+  -- "bytes written": never more than the output has room for
+  pub written-within : written r ≤ room
+  written-within = session-within m xs room
+
+  -- the record at the offset is the one refused, from the model and the log that the bytes before it leave
+  pub refused-at : 0 < r .number → LeftOff m xs room r
+  refused-at = left-off m xs room
+
+  -- a number from 1 to 8 is given as the table says, of the record at the offset and the model left
+  pub number-by-table : AllBytes xs → 0 < r .number → r .number < 9
+      → (why : Refusal) × (r .number ≡ numberOf why) × Given why (drop (r .offset) xs) (r .model)
+  number-by-table = by-table m xs room
+
+-- from any log that the output holds already
+pub written-from : (most : ℕ) (rest : List ℕ) (room at : ℕ) (m : Model) (log : List Logged) → length (bytesOf log) ≤ room
+    → length (bytesOf (reading most rest room at m log .log)) ≤ room
+written-from = reading-within
+
+-- ---- "Given exactly when": each number of the table, of the record at the front of `rest`
+-- 1 to 8, in the table's order: `Given` is the row, with none of the earlier ones
+pub number-exactly : (rest : List ℕ) (m : Model) → AllBytes rest → (why : Refusal)
+    → (asked rest m ≡ Refused why → Given why rest m) × (Given why rest m → asked rest m ≡ Refused why)
+number-exactly rest m bytes why = (holds-given rest m bytes why, given rest m bytes why)
+
+-- and so where a session stands: the number is given there, and nothing changes
+pub number-there : (m : Model) (ys zs : List ℕ) (room : ℕ) → session m ys room .number ≡ 0 → 0 < length zs → AllBytes zs
+    → (why : Refusal) → Given why zs (session m ys room .model)
+    → session m (ys ++ zs) room ≡ record { model = session m ys room .model; number = numberOf why; offset = length ys; ticks = 0; log = session m ys room .log }
+number-there = refused-there
+
+-- 9 of one answer
+pub nine-of-answer : (first second third room : ℕ) (m : Model) (log : List Logged)
+    → (NoRoom room log (frameLog m first second third) → step (Frame first second third) room m log ≡ refused Full 0 m log)
+    × (step (Frame first second third) room m log ≡ refused Full 0 m log → NoRoom room log (frameLog m first second third))
+nine-of-answer first second third room m log = (answer-full first second third room m log, full-answer first second third room m log)
+
+-- 9 of the records of one tick: t of the n ticks fit and stand, the next does not fit and does nothing
+pub nine-of-tick : (n t room : ℕ) (m : Model) (log : List Logged) → t < n → Fitted t room m log → NoRoomAfter t room m log
+    → step (Ticks n) room m log ≡ refused Full t (tickedModel t m) (tickedLog t m log)
+nine-of-tick = tick-full
+
+pub tick-of-nine : (n room : ℕ) (m : Model) (log : List Logged) {why : Refusal} {t : ℕ} {m′ : Model} {log′ : List Logged} → step (Ticks n) room m log ≡ refused why t m′ log′
+    → (t < n) × Fitted t room m log × NoRoomAfter t room m log × (why ≡ Full) × (m′ ≡ tickedModel t m) × (log′ ≡ tickedLog t m log)
+tick-of-nine = full-tick

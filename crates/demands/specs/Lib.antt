@@ -1,0 +1,7 @@
+pub mod Stands
+pub mod Happenings
+pub mod Alone
+pub mod Window
+pub mod Numbers
+pub mod Streams
+pub mod Unique

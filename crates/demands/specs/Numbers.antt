@@ -1,0 +1,110 @@
+-- Document 01, "Numbers given when a record is not taken": the table, each row as a condition on what is left of a session and on the model.
+-- Order: mark present (2), mark known (1), record whole (2), then the record's own numbers in rising order.
+-- Assumes nothing.
+use Prim.Native.Nat.{ℕ, _+_, _-_, _<_, _^_, _≤_}
+use Rattle.bench.specs.Device.{instanceAt}
+use Rattle.bench.specs.Tick.{tickLog}
+use Rattle.bench.specs.declared.model.Model.{Model}
+use Rattle.demands.specs.Happenings.{logAfter, modelAfter, tick}
+use Rattle.record.specs.Log.{Logged, bytesOf}
+use Rattle.sensor.specs.declared.kind.Kind.the-variants.{Light, Occupancy}
+use Rattle.sensor.specs.declared.kind.Kind.{Kind}
+use Rattle.sensor.specs.declared.settings.Sample.{Sample}
+use Rattle.session.specs.Asked.{asked, byte, sampleIn, word}
+use Rattle.session.specs.Refusals.{numberOf}
+use Rattle.session.specs.Session.{End, refused, session, step}
+use Rattle.session.specs.declared.asked.Refusal.the-variants.{BadSample, Cut, Full, LateOrSkipped, NoSuchSensor, NoTicks, TimeOver, Undeclared, UnknownMark}
+use Rattle.session.specs.declared.asked.Refusal.{Refusal}
+use lib.ListN.{drop, length, replicate, take}
+use mathlib.Core.Bool.{true}
+use mathlib.Core.List.{List, _++_}
+use mathlib.Core.Logic.{_≢_, _⊎_}
+use mathlib.Core.Path.{_≡_}
+
+-- ---- marks: two letters in ASCII
+abbrev pub Marked : (a b : ℕ) → List ℕ → Type 0
+Marked a b rest = (2 ≤ length rest) × (byte rest 0 ≡ a) × (byte rest 1 ≡ b)
+
+abbrev pub IN : List ℕ → Type 0
+IN rest = Marked 0x49 0x4E rest
+
+abbrev pub SA : List ℕ → Type 0
+SA rest = Marked 0x53 0x41 rest
+
+abbrev pub FR : List ℕ → Type 0
+FR rest = Marked 0x46 0x52 rest
+
+abbrev pub TK : List ℕ → Type 0
+TK rest = Marked 0x54 0x4B rest
+
+-- ---- the conditions of the rows
+-- "IN after a record of another kind, or its number isn't the next"
+abbrev pub Late : List ℕ → Model → Type 0
+Late rest m = (m .running ≡ true) ⊎ (byte rest 2 ≢ m .count)
+
+-- "IN number 16 or above; type not 3 or 4; type 3 with resolution not 2; type 4 with resolution outside 1 to 24"
+abbrev pub NoSensor : (number type resolution : ℕ) → Type 0
+NoSensor number type resolution =
+    (16 ≤ number) ⊎ ((type ≢ 3) × (type ≢ 4)) ⊎ ((type ≡ 3) × (resolution ≢ 2)) ⊎ ((type ≡ 4) × ((resolution < 1) ⊎ (24 < resolution)))
+
+-- an instance that is declared; there are at most sixteen
+abbrev pub Declared : Model → (i : ℕ) → Type 0
+Declared m i = (i < m .count) × (i < 16)
+
+-- "Sample status: 0 valid, 1 not ready (type 4 only), 2 physical failure. Light value with status 0: 0 to 2^resolution - 2. Occupancy: 0 to 3.
+-- With status 1 or 2 the value must be 0."
+abbrev pub Allowed : Kind → Sample → Type 0
+Allowed (Light l) sample =
+    ((sample .status ≡ 0) × (sample .value + 2 ≤ 2 ^ (l .resolution))) ⊎ ((sample .status ≡ 1) × (sample .value ≡ 0)) ⊎ ((sample .status ≡ 2) × (sample .value ≡ 0))
+Allowed (Occupancy o) sample = ((sample .status ≡ 0) × (sample .value ≤ 3)) ⊎ ((sample .status ≡ 2) × (sample .value ≡ 0))
+
+-- ---- the table: the record at the front of `rest` is refused so, in a device m
+abbrev pub Given : Refusal → List ℕ → Model → Type 0
+-- 1: mark unknown
+Given UnknownMark rest m = (2 ≤ length rest) × (IN rest → ⊥) × (SA rest → ⊥) × (FR rest → ⊥) × (TK rest → ⊥)
+-- 2: fewer bytes remain than the mark, or the record, needs
+Given Cut rest m =
+    (length rest < 2) ⊎ (IN rest × (length rest < 5)) ⊎ (SA rest × (length rest < 7)) ⊎ (FR rest × (length rest < 5)) ⊎ (TK rest × (length rest < 4))
+-- 3: IN after a record of another kind, or its number isn't the next, from 0
+Given LateOrSkipped rest m = IN rest × (5 ≤ length rest) × Late rest m
+-- 4: no such sensor
+Given NoSuchSensor rest m = IN rest × (5 ≤ length rest) × (Late rest m → ⊥) × NoSensor (byte rest 2) (byte rest 3) (byte rest 4)
+-- 5: SA for an undeclared instance
+Given Undeclared rest m = SA rest × (7 ≤ length rest) × (Declared m (byte rest 2) → ⊥)
+-- 6: SA status or value not allowed
+Given BadSample rest m =
+    SA rest × (7 ≤ length rest) × Declared m (byte rest 2) × (Allowed (instanceAt m (byte rest 2) .kind) (sampleIn rest) → ⊥)
+-- 7: TK count 0
+Given NoTicks rest m = TK rest × (4 ≤ length rest) × (word rest 2 ≡ 0)
+-- 8: tick number would pass 4,294,967,295
+Given TimeOver rest m = TK rest × (4 ≤ length rest) × (word rest 2 ≢ 0) × (4294967295 < m .tick + word rest 2)
+-- 9 is a matter of the output that is left, and not of the record alone
+Given Full rest m = ⊥
+
+-- ---- 9: "the records of one tick, or one answer, don't fit in the output that is left"
+abbrev pub NoRoom : (room : ℕ) → (log more : List Logged) → Type 0
+NoRoom room log more = room - length (bytesOf log) < length (bytesOf more)
+
+-- after t ticks from m with `log` written: the model, the log, and that the records of the next tick do not fit
+abbrev pub tickedModel : (t : ℕ) → Model → Model
+tickedModel t m = modelAfter m (replicate t tick)
+
+abbrev pub tickedLog : (t : ℕ) → Model → List Logged → List Logged
+tickedLog t m log = log ++ logAfter m (replicate t tick)
+
+abbrev pub NoRoomAfter : (t room : ℕ) → Model → List Logged → Type 0
+NoRoomAfter t room m log = NoRoom room (tickedLog t m log) (tickLog (tickedModel t m))
+
+-- and that those of each of the t ticks did
+abbrev pub Fitted : (t room : ℕ) → Model → List Logged → Type 0
+Fitted t room m log = (s : ℕ) → s < t → NoRoomAfter s room m log → ⊥
+
+-- ---- where a reading leaves off: the bytes before the refused record are taken whole and leave a model and a log; from there the record at
+-- the offset is refused
+pub record LeftOff (m : Model) (xs : List ℕ) (room : ℕ) (r : End) : Type 0 where
+  pub why : Refusal
+  pub model : Model
+  pub log : List Logged
+  pub before : session m (take (r .offset) xs) room ≡ record { model = model; number = 0; offset = r .offset; ticks = 0; log = log }
+  pub refuses : step (asked (drop (r .offset) xs) model) room model log ≡ refused why (r .ticks) (r .model) (r .log)
+  pub numbered : r .number ≡ numberOf why

@@ -1,0 +1,104 @@
+-- Demand 3: the events of an instance in a log, and the window of ticks after one of them.
+-- Assumes nothing.
+use Prim.Native.Nat.{ℕ, _+_, _<_}
+use Rattle.bench.specs.Device.{instanceAt}
+use Rattle.bench.specs.Frame.{counts}
+use Rattle.bench.specs.Tick.{tickLog}
+use Rattle.bench.specs.declared.model.Model.{Model}
+use Rattle.command.specs.Meaning.{isSetting, meaning}
+use Rattle.demands.specs.Happenings.{Call, Happening, bytesWritten, carriedOut, declare, frame, happen, hold, modelAfter, tick, ticksIn}
+use Rattle.gate.specs.Pace.{noted}
+use Rattle.gate.specs.Timers.{deadTime, reportTime}
+use Rattle.gate.specs.declared.Rules.{Rules}
+use Rattle.record.specs.Log.{AN, EV, Logged, decoded}
+use Rattle.sensor.specs.Kind.{repeat, rules}
+use Rattle.sensor.specs.Tick.{valid}
+use Rattle.sensor.specs.declared.instance.Instance.{Instance}
+use lib.Dec.{eqb, leb, ltb}
+use lib.ListN.{length}
+use mathlib.Core.Bool.{Bool, false, true, _&&_}
+use mathlib.Core.List.{List, [], _++_, _∷_}
+use mathlib.Core.Path.{_≡_}
+
+-- ---- events
+-- the ticks of the EV records of instance i in a log
+unfoldable pub eventsOf : (i : ℕ) → List Logged → List ℕ
+eventsOf i [] = []
+eventsOf i (EV t j priority information ∷ log) = noted (eqb j i) t ++ eventsOf i log
+eventsOf i (AN t j answer ∷ log) = eventsOf i log
+
+-- of those, the ticks above `last` and up to `end`
+unfoldable pub between : (last end : ℕ) → List ℕ → List ℕ
+between last end [] = []
+between last end (t ∷ ts) = noted (ltb last t && leb t end) t ++ between last end ts
+
+-- ---- times of an instance, in ticks: D is its dead time, R the larger of D and its report time
+abbrev pub rulesOf : Instance → Rules
+rulesOf x = rules (x .kind) (x .settings)
+
+abbrev pub D : Instance → ℕ
+D x = deadTime (rulesOf x)
+
+abbrev pub R : Instance → ℕ
+R x = reportTime (rulesOf x)
+
+-- ---- "its held sample valid at every tick, no setting command reaching it"
+-- a frame that counts for instance i, and means a setting command to it
+abbrev pub setsIt : (i : ℕ) → Model → (first second third : ℕ) → Bool
+setsIt i m first second third = (counts m first second && eqb second i) && isSetting (meaning (instanceAt m i .kind) third)
+
+abbrev pub Calm : (i : ℕ) → Model → Happening → Type 0
+Calm i m (declare number resolution) = Unit {0}
+Calm i m (hold j sample) = Unit {0}
+Calm i m (frame first second third) = setsIt i m first second third ≡ false
+Calm i m tick = valid (instanceAt m i) ≡ true
+
+abbrev pub Undisturbed : (i : ℕ) → Model → List Happening → Type 0
+Undisturbed i m [] = Unit {0}
+Undisturbed i m (h ∷ hs) = Calm i m h × Undisturbed i (happen m h) hs
+
+-- "its report multiplier above 0, its light or Repeat filter bit set"
+pub record Reports (x : Instance) : Type 0 where
+  pub set : 0 < x .settings .report
+  pub lets : repeat (x .kind) (x .settings) ≡ true
+
+-- ---- a window: what the calls carried out, cut after one happening and again some time later
+pub record Cut (m₀ : Model) (calls : List Call) (h : Happening) : Type 0 where
+  pub before : List Happening
+  pub during : List Happening
+  pub later : List Happening
+  pub cut : carriedOut m₀ calls ≡ before ++ (h ∷ (during ++ later))
+
+module _ {m₀ : Model} {calls : List Call} {h : Happening} (c : Cut m₀ calls h) where
+  -- the device before the happening and just after it, with its tick number, and the ticks of the window
+  abbrev pub deviceBefore : Model
+  deviceBefore = modelAfter m₀ (c .before)
+
+  abbrev pub deviceAfter : Model
+  deviceAfter = happen deviceBefore h
+
+  abbrev pub last : ℕ
+  last = deviceAfter .tick
+
+  abbrev pub n : ℕ
+  n = ticksIn (c .during)
+
+  -- the ticks of the window that hold an EV record of instance i in the bytes of the log
+  abbrev pub events : (i : ℕ) → List ℕ
+  events i = between last (last + n) (eventsOf i (decoded (bytesWritten m₀ calls)))
+
+-- the window after a tick that logged an event of instance i
+pub record Window (m₀ : Model) (calls : List Call) (i : ℕ) : Type 0 where
+  pub at : Cut m₀ calls tick
+  pub event : 0 < length (eventsOf i (tickLog (deviceBefore at)))
+  pub reports : Reports (instanceAt (deviceAfter at) i)
+  pub undisturbed : Undisturbed i (deviceAfter at) (at .during)
+
+-- the window after an IN that declared instance i
+pub record Start (m₀ : Model) (calls : List Call) (i number resolution : ℕ) : Type 0 where
+  pub at : Cut m₀ calls (declare number resolution)
+  pub next : i ≡ deviceBefore at .count
+  pub there : i < 16
+  pub sixteen : length (m₀ .instances) ≡ 16
+  pub reports : Reports (instanceAt (deviceAfter at) i)
+  pub undisturbed : Undisturbed i (deviceAfter at) (at .during)
