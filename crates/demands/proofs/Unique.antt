@@ -33,6 +33,8 @@ use Rattle.command.specs.declared.meaning.Command.{Command}
 use Rattle.demands.specs.Unique.{Unique, UniqueLent}
 use Rattle.gate.proofs.Gate.decided.Kinds as Gate-decided-kinds
 use Rattle.gate.proofs.Gate.decided.Reads as Gate-decided
+use Rattle.gate.proofs.Gate.shut_for.Kinds as Gate-shut-for-kinds
+use Rattle.gate.proofs.Gate.shut_for.Reads as Gate-shut-for
 use Rattle.gate.proofs.Report.due.Kinds as Report-due-kinds
 use Rattle.gate.proofs.Report.due.Reads as Report-due
 use Rattle.gate.proofs.Report.fallen.Kinds as Report-fallen-kinds
@@ -47,6 +49,8 @@ use Rattle.gate.proofs.Timers.after.Kinds as Timers-after-kinds
 use Rattle.gate.proofs.Timers.after.Reads as Timers-after
 use Rattle.gate.proofs.Timers.fallen.Kinds as Timers-fallen-kinds
 use Rattle.gate.proofs.Timers.fallen.Reads as Timers-fallen
+use Rattle.gate.proofs.Timers.rested.Kinds as Timers-rested-kinds
+use Rattle.gate.proofs.Timers.rested.Reads as Timers-rested
 use Rattle.gate.proofs.Timers.started.Kinds as Timers-started-kinds
 use Rattle.gate.proofs.Timers.started.Reads as Timers-started
 use Rattle.record.proofs.write_answer.Kinds as record-write-answer-kinds
@@ -59,6 +63,10 @@ use Rattle.sensor.proofs.instance.Instance.fresh.Kinds as Instance-fresh-kinds
 use Rattle.sensor.proofs.instance.Instance.fresh.Reads as Instance-fresh
 use Rattle.sensor.proofs.instance.Instance.holding.Kinds as Instance-holding-kinds
 use Rattle.sensor.proofs.instance.Instance.holding.Reads as Instance-holding
+use Rattle.sensor.proofs.instance.Instance.quiet_for.Kinds as Instance-quiet-for-kinds
+use Rattle.sensor.proofs.instance.Instance.quiet_for.Reads as Instance-quiet-for
+use Rattle.sensor.proofs.instance.Instance.rested.Kinds as Instance-rested-kinds
+use Rattle.sensor.proofs.instance.Instance.rested.Reads as Instance-rested
 use Rattle.sensor.proofs.instance.Instance.tick.Kinds as Instance-tick-kinds
 use Rattle.sensor.proofs.instance.Instance.tick.Reads as Instance-tick
 use Rattle.sensor.proofs.kind.Kind.allowing.Kinds as Kind-allowing-kinds
@@ -83,6 +91,8 @@ use Rattle.sensor.proofs.kind.Kind.rules.Kinds as Kind-rules-kinds
 use Rattle.sensor.proofs.kind.Kind.rules.Reads as Kind-rules
 use Rattle.sensor.proofs.kind.Kind.sent.Kinds as Kind-sent-kinds
 use Rattle.sensor.proofs.kind.Kind.sent.Reads as Kind-sent
+use Rattle.sensor.proofs.kind.Kind.settled.Kinds as Kind-settled-kinds
+use Rattle.sensor.proofs.kind.Kind.settled.Reads as Kind-settled
 use Rattle.sensor.proofs.kind.Kind.taken.Kinds as Kind-taken-kinds
 use Rattle.sensor.proofs.kind.Kind.taken.Reads as Kind-taken
 use Rattle.sensor.proofs.kind.Kind.units.Kinds as Kind-units-kinds
@@ -105,6 +115,8 @@ use Rattle.sensor.proofs.light.Light.repeat.Kinds as Light-repeat-kinds
 use Rattle.sensor.proofs.light.Light.repeat.Reads as Light-repeat
 use Rattle.sensor.proofs.light.Light.sent.Kinds as Light-sent-kinds
 use Rattle.sensor.proofs.light.Light.sent.Reads as Light-sent
+use Rattle.sensor.proofs.light.Light.settled.Kinds as Light-settled-kinds
+use Rattle.sensor.proofs.light.Light.settled.Reads as Light-settled
 use Rattle.sensor.proofs.light.Light.taken.Kinds as Light-taken-kinds
 use Rattle.sensor.proofs.light.Light.taken.Reads as Light-taken
 use Rattle.sensor.proofs.modelled.Kinds as sensor-modelled-kinds
@@ -125,6 +137,8 @@ use Rattle.sensor.proofs.occupancy.Occupancy.repeat.Kinds as Occupancy-repeat-k
 use Rattle.sensor.proofs.occupancy.Occupancy.repeat.Reads as Occupancy-repeat
 use Rattle.sensor.proofs.occupancy.Occupancy.sent.Kinds as Occupancy-sent-kinds
 use Rattle.sensor.proofs.occupancy.Occupancy.sent.Reads as Occupancy-sent
+use Rattle.sensor.proofs.occupancy.Occupancy.settled.Kinds as Occupancy-settled-kinds
+use Rattle.sensor.proofs.occupancy.Occupancy.settled.Reads as Occupancy-settled
 use Rattle.sensor.proofs.occupancy.Occupancy.taken.Kinds as Occupancy-taken-kinds
 use Rattle.sensor.proofs.occupancy.Occupancy.taken.Reads as Occupancy-taken
 use Rattle.sensor.specs.declared.settings.Settings.{Settings}
@@ -198,8 +212,14 @@ Timers-started-unique κs a x y s t p q = p ∙ sym q
 pub Timers-after-unique : Unique 0 Timers-after-kinds.ps Timers-after-kinds.r Timers-after.Post
 Timers-after-unique κs a x y s t p q = p ∙ sym q
 
+pub Timers-rested-unique : Unique 0 Timers-rested-kinds.ps Timers-rested-kinds.r Timers-rested.Post
+Timers-rested-unique κs a x y s t p q = p ∙ sym q
+
 pub Gate-decided-unique : Unique 0 Gate-decided-kinds.ps Gate-decided-kinds.r Gate-decided.Post
 Gate-decided-unique κs a x y s t p q = p ∙ sym q
+
+pub Gate-shut-for-unique : Unique 0 Gate-shut-for-kinds.ps Gate-shut-for-kinds.r Gate-shut-for.Post
+Gate-shut-for-unique κs a x y s t p q = p ∙ sym q
 
 -- ---- crate record
 pub record-write-event-unique : UniqueLent 1 record-write-event-kinds.ps record-write-event-kinds.r record-write-event.Post (List ℕ) (λ κs s. s .0 .now)
@@ -220,6 +240,12 @@ Instance-holding-unique κs a x y s t p q = p ∙ sym q
 
 pub Instance-tick-unique : Unique 0 Instance-tick-kinds.ps Instance-tick-kinds.r Instance-tick.Post
 Instance-tick-unique κs a x y s t p q = p ∙ sym q
+
+pub Instance-quiet-for-unique : Unique 0 Instance-quiet-for-kinds.ps Instance-quiet-for-kinds.r Instance-quiet-for.Post
+Instance-quiet-for-unique κs a x y s t p q = p ∙ sym q
+
+pub Instance-rested-unique : Unique 0 Instance-rested-kinds.ps Instance-rested-kinds.r Instance-rested.Post
+Instance-rested-unique κs a x y s t p q = p ∙ sym q
 
 pub Kind-units-unique : Unique 0 Kind-units-kinds.ps Kind-units-kinds.r Kind-units.Post
 Kind-units-unique κs a x y s t p q = p ∙ sym q
@@ -260,6 +286,9 @@ Kind-allows-unique κs a x y s t p q = p ∙ sym q
 pub Kind-allowing-unique : Unique 0 Kind-allowing-kinds.ps Kind-allowing-kinds.r Kind-allowing.Post
 Kind-allowing-unique κs a x y s t p q = p ∙ sym q
 
+pub Kind-settled-unique : Unique 0 Kind-settled-kinds.ps Kind-settled-kinds.r Kind-settled.Post
+Kind-settled-unique κs a x y s t p q = p ∙ sym q
+
 pub Light-fresh-unique : Unique 0 Light-fresh-kinds.ps Light-fresh-kinds.r Light-fresh.Post
 Light-fresh-unique κs a x y s t p q = p ∙ sym q
 
@@ -283,6 +312,9 @@ Light-information-unique κs a x y s t p q = p ∙ sym q
 
 pub Light-input-unique : Unique 0 Light-input-kinds.ps Light-input-kinds.r Light-input.Post
 Light-input-unique κs a x y s t p q = p ∙ sym q
+
+pub Light-settled-unique : Unique 0 Light-settled-kinds.ps Light-settled-kinds.r Light-settled.Post
+Light-settled-unique κs a x y s t p q = p ∙ sym q
 
 pub Band-outside-unique : Unique 0 Band-outside-kinds.ps Band-outside-kinds.r Band-outside.Post
 Band-outside-unique κs a x y s t p q = p ∙ sym q
@@ -316,6 +348,9 @@ Occupancy-input-unique κs a x y s t p q = p ∙ sym q
 
 pub Occupancy-allowing-unique : Unique 0 Occupancy-allowing-kinds.ps Occupancy-allowing-kinds.r Occupancy-allowing.Post
 Occupancy-allowing-unique κs a x y s t p q = p ∙ sym q
+
+pub Occupancy-settled-unique : Unique 0 Occupancy-settled-kinds.ps Occupancy-settled-kinds.r Occupancy-settled.Post
+Occupancy-settled-unique κs a x y s t p q = p ∙ sym q
 
 pub sensor-modelled-unique : Unique 0 sensor-modelled-kinds.ps sensor-modelled-kinds.r sensor-modelled.Post
 sensor-modelled-unique κs a x y s t p q = p ∙ sym q

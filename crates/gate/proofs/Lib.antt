@@ -1,3 +1,4 @@
 pub mod Laws
 pub mod Spaced
 pub mod Pace
+pub mod Quiet

@@ -1,3 +1,4 @@
 pub mod Timers
 pub mod Gate
 pub mod Pace
+pub mod Quiet

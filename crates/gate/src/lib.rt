@@ -2,8 +2,12 @@
 // Nothing here knows what a sensor measures: a kind says whether it has a cause of its own, and the gate does the rest.
 ghost use Prim.Native.Nat.{_*_, _-_, max};
 ghost use Rattle.gate.specs.Gate.{after, decided};
+ghost use Rattle.gate.specs.Quiet.{heldFor, rested, restedReport, shutFor};
 ghost use Rattle.gate.specs.Timers.{deadTime, due, fallen, fallenReport, reportTime, started, startedReport};
 ghost use mathlib.Core.Path.{_≡_};
+
+// More ticks than a session can count.
+const FOREVER: u32 = 4294967295;
 
 // The report timer. Left(0) is due, and stays due.
 pub enum Report {
@@ -86,6 +90,26 @@ impl Report {
             Report::Left(rules.report_time())
         }
     }
+
+    // After n ticks with no event.
+    fn rested(self, n: u32) -> Report
+        ensures { λ r. ⌜ r ≡ restedReport self n ⌝ }
+    {
+        match self {
+            Report::Stopped => Report::Stopped,
+            Report::Left(m) => Report::Left(less_by(m, n)),
+        }
+    }
+
+    // For how many ticks it and dead time hold a report back.
+    fn held_for(self, dead: u16) -> u32
+        ensures { λ r. ⌜ r ≡ heldFor self dead ⌝ }
+    {
+        match self {
+            Report::Stopped => FOREVER,
+            Report::Left(m) => less(larger(m, dead)) as u32,
+        }
+    }
 }
 
 impl Timers {
@@ -120,6 +144,17 @@ impl Timers {
             Gate::Reported => Timers::started(rules),
         }
     }
+
+    // After n ticks with no event.
+    pub fn rested(self, n: u32) -> Timers
+        ensures { λ r. ⌜ r ≡ rested self n ⌝ }
+    {
+        let report = self.report;
+        Timers {
+            dead: less_by(self.dead, n),
+            report: report.rested(n),
+        }
+    }
 }
 
 impl Gate {
@@ -143,6 +178,26 @@ impl Gate {
             Gate::Silent
         }
     }
+
+    // For how many ticks no event goes out, if nothing but the timers changes: dead time alone holds a cause of the sensor's own back.
+    pub fn shut_for(rules: Rules, valid: bool, timers: Timers, cause: bool) -> u32
+        ensures { λ r. ⌜ r ≡ shutFor rules valid timers cause ⌝ }
+    {
+        let report = timers.report;
+        if rules.enabled & valid {
+            if cause {
+                less(timers.dead) as u32
+            } else {
+                if rules.repeat {
+                    report.held_for(timers.dead)
+                } else {
+                    FOREVER
+                }
+            }
+        } else {
+            FOREVER
+        }
+    }
 }
 
 // One less, but not below 0.
@@ -150,6 +205,14 @@ fn less(n: u16) -> u16
     ensures { λ r. ⌜ r ≡ n - 1 ⌝ }
 {
     if n == 0 { 0 } else { n - 1 }
+}
+
+// Less by k, but not below 0.
+fn less_by(n: u16, k: u32) -> u16
+    ensures { λ r. ⌜ r ≡ n - k ⌝ }
+{
+    let wide = n as u32;
+    if k < wide { (wide - k) as u16 } else { 0 }
 }
 
 fn larger(a: u16, b: u16) -> u16

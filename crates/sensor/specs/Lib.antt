@@ -4,3 +4,4 @@ pub mod Kind
 pub mod Fresh
 pub mod Tick
 pub mod Marked
+pub mod Quiet

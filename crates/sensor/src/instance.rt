@@ -8,7 +8,9 @@ use gate::Gate;
 use gate::Report;
 use gate::Timers;
 ghost use Rattle.sensor.specs.Fresh.{declared, fresh};
+ghost use Rattle.sensor.specs.Quiet.{quietFor, rested, steady};
 ghost use Rattle.sensor.specs.Tick.{closed, holding, kindAfter, sentAfter, ticked};
+ghost use mathlib.Core.Bool.{cond, not};
 ghost use mathlib.Core.Path.{_≡_};
 
 // The bytes of inputValue that 8D has yet to answer: the lowest `left` of `bytes`.
@@ -110,6 +112,40 @@ impl Instance {
         let sent = sent_after(gate, kind, settings);
         Ticked { instance, sent }
     }
+
+    // For how many ticks from now it sends nothing; 0 where the next tick may do more than let timers fall.
+    pub fn quiet_for(self) -> u32
+        ensures { λ r. ⌜ r ≡ quietFor self ⌝ }
+    {
+        if self.steady() {
+            let kind = self.kind;
+            let settings = self.settings;
+            let held = self.held;
+            let rules = kind.rules(settings);
+            let cause = kind.cause(settings);
+            Gate::shut_for(rules, held.status == 0, self.timers, cause)
+        } else {
+            0
+        }
+    }
+
+    // After n such ticks.
+    pub fn rested(self, n: u32) -> Instance
+        ensures { λ r. ⌜ r ≡ rested self n ⌝ }
+    {
+        let running = self.timers;
+        let timers = running.rested(n);
+        Instance { timers, ..self }
+    }
+
+    // The held sample has been taken, and `failed` is right.
+    fn steady(self) -> bool
+        ensures { λ r. ⌜ r ≡ steady self ⌝ }
+    {
+        let kind = self.kind;
+        let held = self.held;
+        kind.settled(self.settings, held) & same(self.failed, held.status == 2)
+    }
 }
 
 fn kind_after(gate: Gate, kind: Kind, settings: Settings) -> Kind
@@ -137,4 +173,10 @@ fn sent_after(gate: Gate, kind: Kind, settings: Settings) -> Sent
             information: kind.information(true),
         },
     }
+}
+
+fn same(a: bool, b: bool) -> bool
+    ensures { λ r. ⌜ r ≡ cond a b (not b) ⌝ }
+{
+    if a { b } else { !b }
 }

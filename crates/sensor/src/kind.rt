@@ -6,6 +6,7 @@ use crate::settings::Settings;
 use gate::Rules;
 use gate::Units;
 ghost use Rattle.sensor.specs.Kind.{allowing, allows, cause, information, input, kept, modelled, number, repeat, resolution, rules, sent, taken, units};
+ghost use Rattle.sensor.specs.Quiet.{settled};
 ghost use mathlib.Core.Path.{_≡_};
 
 pub enum Kind {
@@ -143,6 +144,16 @@ impl Kind {
         match self {
             Kind::Light(x) => Kind::Light(x),
             Kind::Occupancy(x) => Kind::Occupancy(x.allowing(allowed)),
+        }
+    }
+
+    // Taking the held sample again changes nothing.
+    pub fn settled(self, settings: Settings, held: Sample) -> bool
+        ensures { λ r. ⌜ r ≡ settled self settings held ⌝ }
+    {
+        match self {
+            Kind::Light(x) => x.settled(held),
+            Kind::Occupancy(x) => x.settled(settings, held),
         }
     }
 }

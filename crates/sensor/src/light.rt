@@ -7,6 +7,7 @@ use gate::Units;
 ghost use Prim.Native.Nat.{_-_, _<_, _^_};
 ghost use Rattle.sensor.specs.Fresh.{lightFresh};
 ghost use Rattle.sensor.specs.Light.{lightAllows, lightCause, lightInformation, lightInput, lightRepeat, lightSent, lightTaken, minimum, moved, outside, width};
+ghost use Rattle.sensor.specs.Quiet.{lightSettled, noBand};
 ghost use Rattle.sensor.specs.declared.light.Band.the-variants.{Between};
 ghost use lib.Dec.{ltb};
 ghost use mathlib.Core.Path.{_≡_};
@@ -148,6 +149,17 @@ impl Light {
             widen::mask(self.resolution)
         }
     }
+
+    // Taking the held sample again changes nothing.
+    pub fn settled(self, held: Sample) -> bool
+        ensures { λ r. ⌜ r ≡ lightSettled self held ⌝ }
+    {
+        let band = self.band;
+        let shown = self.shown;
+        (shown.value == held.value)
+            & (shown.status == held.status)
+            & ((held.status == 0) | band.none())
+    }
 }
 
 impl Band {
@@ -182,6 +194,15 @@ impl Band {
                     }
                 }
             }
+        }
+    }
+
+    fn none(self) -> bool
+        ensures { λ r. ⌜ r ≡ noBand self ⌝ }
+    {
+        match self {
+            Band::Nowhere => true,
+            Band::Between { low: _, high: _ } => false,
         }
     }
 }

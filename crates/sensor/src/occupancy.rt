@@ -6,6 +6,7 @@ use crate::settings::Settings;
 use gate::Units;
 ghost use Rattle.sensor.specs.Fresh.{occupancyFresh};
 ghost use Rattle.sensor.specs.Occupancy.{change, occupancyAllowing, occupancyAllows, occupancyCause, occupancyInformation, occupancyInput, occupancyRepeat, occupancySent, occupancyTaken, triggers, waits};
+ghost use Rattle.sensor.specs.Quiet.{occupancySettled};
 ghost use mathlib.Core.Path.{_≡_};
 
 // value: of the last tick with status 0; bit 0 movement, bit 1 occupied. waiting: the triggers that wait to be sent.
@@ -132,6 +133,19 @@ impl Occupancy {
         Occupancy {
             value: self.value,
             waiting: self.waiting & allowed,
+        }
+    }
+
+    // Taking the held sample again changes nothing.
+    pub fn settled(self, settings: Settings, held: Sample) -> bool
+        ensures { λ r. ⌜ r ≡ occupancySettled self settings held ⌝ }
+    {
+        let none = self.waiting == 0;
+        if held.status == 0 {
+            let value = (held.value % 4) as u8;
+            (self.value == value) & (settings.enabled | none)
+        } else {
+            none
         }
     }
 }

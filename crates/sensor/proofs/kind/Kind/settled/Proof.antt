@@ -1,0 +1,37 @@
+-- `sensor::kind::Kind::settled` meets its contract.
+-- Assumes nothing.
+use Rattle.sensor.proofs.kind.Kind.settled.Statement.{statement}
+use Rattle.sensor.proofs.kind.Kind.settled.Tie as tie
+use Rattle.sensor.specs.Quiet.{settled}
+use borrow.Author.Needs.{needs}
+
+enum-known-self : tie.Need-enum-known-self
+enum-known-self c = search needs
+
+settled-requires : tie.Need-settled-requires
+settled-requires c κs = search needs
+
+enum-known-self-2 : tie.Need-enum-known-self-2
+enum-known-self-2 c = search needs
+
+settled-requires-2 : tie.Need-settled-requires-2
+settled-requires-2 c κs = search needs
+
+returns : tie.Need-returns
+unfolding settled
+returns c = rw (c .settled .ensures, c .before .before .self .given .1)
+
+returns-2 : tie.Need-returns-2
+unfolding settled
+returns-2 c = rw (c .settled2 .ensures, c .before .before .self2 .given .1)
+
+pub settled-spec : {M : Type 1} → statement M
+settled-spec =
+    tie.close
+    (tie.spec
+    enum-known-self
+    settled-requires
+    enum-known-self-2
+    settled-requires-2
+    returns
+    returns-2)

@@ -1,0 +1,51 @@
+-- For how many ticks an instance is sure to send nothing, and what it is after them.
+-- Assumes nothing.
+use Prim.Native.Nat.{ℕ, _%_}
+use Rattle.gate.specs.Quiet as gates
+use Rattle.sensor.specs.Kind.{cause, rules}
+use Rattle.sensor.specs.Tick.{valid}
+use Rattle.sensor.specs.declared.instance.Instance.{Instance}
+use Rattle.sensor.specs.declared.kind.Kind.the-variants as kinds
+use Rattle.sensor.specs.declared.kind.Kind.{Kind}
+use Rattle.sensor.specs.declared.light.Band.the-variants.{Between, Nowhere}
+use Rattle.sensor.specs.declared.light.Band.{Band}
+use Rattle.sensor.specs.declared.light.Light.{Light}
+use Rattle.sensor.specs.declared.occupancy.Occupancy.{Occupancy}
+use Rattle.sensor.specs.declared.settings.Sample.{Sample}
+use Rattle.sensor.specs.declared.settings.Settings.{Settings}
+use lib.Dec.{eqb}
+use mathlib.Core.Bool.{Bool, cond, false, not, true, _&&_, _||_}
+
+-- ---- taking the held sample again changes nothing
+unfoldable pub noBand : Band → Bool
+noBand Nowhere = true
+noBand (Between low high) = false
+
+unfoldable pub lightSettled : Light → (held : Sample) → Bool
+lightSettled l held =
+    (eqb (l .shown .value) (held .value) && eqb (l .shown .status) (held .status)) && (eqb (held .status) 0 || noBand (l .band))
+
+unfoldable pub occupancySettled : Occupancy → Settings → (held : Sample) → Bool
+occupancySettled o s held =
+    cond (eqb (held .status) 0) (eqb (o .value) (held .value % 4) && (s .enabled || eqb (o .waiting) 0)) (eqb (o .waiting) 0)
+
+unfoldable pub settled : Kind → Settings → (held : Sample) → Bool
+settled (kinds.Light l) s held = lightSettled l held
+settled (kinds.Occupancy o) s held = occupancySettled o s held
+
+-- ---- of an instance
+-- the held sample has been taken, and `failed` is right
+unfoldable pub steady : Instance → Bool
+steady x = settled (x .kind) (x .settings) (x .held) && cond (x .failed) (eqb (x .held .status) 2) (not (eqb (x .held .status) 2))
+
+-- for how many ticks from now it sends nothing; 0 where the next tick may do more than let timers fall
+unfoldable pub quietFor : Instance → ℕ
+quietFor x =
+    cond (steady x)
+    (gates.shutFor (rules (x .kind) (x .settings)) (valid x) (x .timers) (cause (x .kind) (x .settings)))
+    0
+
+-- the instance after n such ticks
+unfoldable pub rested : Instance → (n : ℕ) → Instance
+rested x n =
+    record { kind = x .kind; settings = x .settings; timers = gates.rested (x .timers) n; held = x .held; failed = x .failed; latch = x .latch }
