@@ -4,7 +4,7 @@ use Prim.Native.Nat.{ℕ, min, _*_, _+_, _<_, _≤_}
 use Rattle.bench.proofs.Sweep.{sweep-above, sweep-below, sweep-long, sweep-most}
 use Rattle.bench.specs.Device.{declared, fresh, held, instanceAt, known, offered, running}
 use Rattle.bench.specs.Frame.{actedAt, counts, frameLog, frameModel, loads, numberedLog, numberedModel}
-use Rattle.bench.specs.Tick.{sweep, tickLog, tickModel}
+use Rattle.bench.specs.Tick.{onTick, sweep, tickLog, tickModel}
 use Rattle.bench.specs.declared.model.Model.{Model}
 use Rattle.record.specs.Log.{Logged, bytesOf}
 use Rattle.sensor.specs.Fresh as sensors
@@ -35,7 +35,7 @@ module _ (m after : Model) (log : List Logged) (room : ℕ) where
   offered-full h = rw (lt-leb (length (bytesOf log)) room h)
 
 -- ---- who is declared
-both : (a b : Bool) → (a && b) ≡ true → (a ≡ true) × (b ≡ true)
+pub both : (a b : Bool) → (a && b) ≡ true → (a ≡ true) × (b ≡ true)
 both true b h = (refl, h)
 both false b h = absurd (false≢true h)
 
@@ -271,7 +271,7 @@ module _ (m : Model) where
 
   pub tick-length : length (tickModel m .instances) ≡ length (m .instances)
   unfolding tickModel
-  tick-length = sweep-long (m .count) (m .instances)
+  tick-length = sweep-long onTick (m .count) (m .instances)
 
   -- its log takes at most 10 bytes for each declared instance
   pub tick-most : length (bytesOf (tickLog m)) ≤ 10 * min (m .count) (length (m .instances))
@@ -287,20 +287,20 @@ module _ (m : Model) where
     unfolding tickModel instanceAt
     tick-instance k =
         let p = known-below m i k in
-        sweep-below (m .count) i (m .instances) sensors.blank (p .0) (omega arith)
+        sweep-below onTick (m .count) i (m .instances) sensors.blank (p .0) (omega arith)
 
     -- and what is not declared stands
     pub tick-undeclared : known m i ≡ false → instanceAt (tickModel m) i ≡ instanceAt m i
     unfolding tickModel instanceAt
     tick-undeclared none = by (decLe (m .count) i)
       where
-        by : Dec (m .count ≤ i) → getD (sweep (m .count) (m .instances)) i sensors.blank ≡ getD (m .instances) i sensors.blank
-        by (yes h) = sweep-above (m .count) i (m .instances) sensors.blank h
+        by : Dec (m .count ≤ i) → getD (sweep (m .count) onTick (m .instances)) i sensors.blank ≡ getD (m .instances) i sensors.blank
+        by (yes h) = sweep-above onTick (m .count) i (m .instances) sensors.blank h
         by (no h) = past (decLe 16 i)
           where
-            past : Dec (16 ≤ i) → getD (sweep (m .count) (m .instances)) i sensors.blank ≡ getD (m .instances) i sensors.blank
+            past : Dec (16 ≤ i) → getD (sweep (m .count) onTick (m .instances)) i sensors.blank ≡ getD (m .instances) i sensors.blank
             past (yes w) =
-                let l = sweep-long (m .count) (m .instances) in
-                List·getD-eq-default (sweep (m .count) (m .instances)) sensors.blank (omega arith)
+                let l = sweep-long onTick (m .count) (m .instances) in
+                List·getD-eq-default (sweep (m .count) onTick (m .instances)) sensors.blank (omega arith)
                 ∙ sym (List·getD-eq-default (m .instances) sensors.blank (omega arith))
             past (no w) = absurd (true≢false (sym (below-known m i (omega arith) (omega arith)) ∙ none))

@@ -1,5 +1,6 @@
 pub mod Sweep
 pub mod Laws
+pub mod Quiet
 mod Tail
 mod Turn
 mod Numbered

@@ -1,3 +1,4 @@
 pub mod Device
 pub mod Tick
+pub mod Quiet
 pub mod Frame

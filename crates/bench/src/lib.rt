@@ -2,6 +2,7 @@
 // What logs is taken whole or not at all: where its records do not fit in the output's tail, device and output are as before.
 mod frames;
 mod model;
+mod passing;
 mod ticks;
 
 pub use frames::frame;
@@ -10,6 +11,6 @@ pub use model::Offered;
 pub use model::allows;
 pub use model::declare;
 pub use model::fresh;
-pub use model::hold;
 pub use model::known;
-pub use ticks::tick;
+pub use passing::Passed;
+pub use passing::pass;

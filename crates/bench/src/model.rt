@@ -1,7 +1,7 @@
-// The device by value, and the records that log nothing: declarations and samples.
+// The device by value: who is declared, and which samples they take.
 use sensor::Instance;
 use sensor::Sample;
-ghost use Rattle.bench.specs.Device.{allowed, declared, fresh, held, known};
+ghost use Rattle.bench.specs.Device.{allowed, declared, fresh, known};
 ghost use mathlib.Core.Path.{_≡_};
 
 // running: a record that is no IN was taken, and declarations are over. Instances from `count` on are not declared.
@@ -52,21 +52,6 @@ pub fn declare(model: Model, number: u8, resolution: u8) -> Model
         let x = Instance::declared(number, resolution);
         m.instances[i] = x;
         m.count = next + 1;
-    }
-    m
-}
-
-// SA: the instance holds the sample from now on.
-pub fn hold(model: Model, instance: u8, sample: Sample) -> Model
-    ensures { λ r. ⌜ r ≡ held model instance sample ⌝ }
-{
-    let i = instance as usize;
-    let mut m = model;
-    m.running = true;
-    if i < 16 {
-        let x = m.instances[i];
-        let y = x.holding(sample);
-        m.instances[i] = y;
     }
     m
 }

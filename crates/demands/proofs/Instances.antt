@@ -5,7 +5,7 @@ use Rattle.bench.proofs.Laws.{declared-count, declared-dtr0, declared-full, dec
 use Rattle.bench.proofs.Sweep.{sweep-above, sweep-below}
 use Rattle.bench.specs.Device.{declared, held, instanceAt}
 use Rattle.bench.specs.Frame.{actedAt, counts, frameModel, loads, numberedModel}
-use Rattle.bench.specs.Tick.{tickModel}
+use Rattle.bench.specs.Tick.{onTick, tickModel}
 use Rattle.bench.specs.declared.model.Model.{Model}
 use Rattle.command.proofs.Laws.{calm-keeps}
 use Rattle.command.specs.Answering.{ButLatch}
@@ -127,9 +127,9 @@ frame-latch i m first second third e = go (loads first second) refl (counts m fi
 -- ---- a tick, of an instance that is there
 pub ticked-own : {i : ℕ} {m : Model} → Present i m → instanceAt (tickModel m) i ≡ ticked (instanceAt m i) .instance
 unfolding tickModel instanceAt
-ticked-own {i} {m} p = sweep-below (m .count) i (m .instances) sensors.blank (p .counted) (p .listed)
+ticked-own {i} {m} p = sweep-below onTick (m .count) i (m .instances) sensors.blank (p .counted) (p .listed)
 
 -- and of one that is not declared
 pub ticked-past : (m : Model) (i : ℕ) → m .count ≤ i → instanceAt (tickModel m) i ≡ instanceAt m i
 unfolding tickModel instanceAt
-ticked-past m i h = sweep-above (m .count) i (m .instances) sensors.blank h
+ticked-past m i h = sweep-above onTick (m .count) i (m .instances) sensors.blank h

@@ -10,12 +10,10 @@ use Rattle.bench.proofs.frame.Kinds as bench-frame-kinds
 use Rattle.bench.proofs.frame.Reads as bench-frame
 use Rattle.bench.proofs.fresh.Kinds as bench-fresh-kinds
 use Rattle.bench.proofs.fresh.Reads as bench-fresh
-use Rattle.bench.proofs.hold.Kinds as bench-hold-kinds
-use Rattle.bench.proofs.hold.Reads as bench-hold
 use Rattle.bench.proofs.known.Kinds as bench-known-kinds
 use Rattle.bench.proofs.known.Reads as bench-known
-use Rattle.bench.proofs.tick.Kinds as bench-tick-kinds
-use Rattle.bench.proofs.tick.Reads as bench-tick
+use Rattle.bench.proofs.pass.Kinds as bench-pass-kinds
+use Rattle.bench.proofs.pass.Reads as bench-pass
 use Rattle.command.proofs.acted.Kinds as command-acted-kinds
 use Rattle.command.proofs.acted.Reads as command-acted
 use Rattle.command.proofs.asked.Kinds as command-asked-kinds
@@ -391,14 +389,11 @@ bench-allows-unique κs a x y s t p q = p ∙ sym q
 pub bench-declare-unique : Unique 0 bench-declare-kinds.ps bench-declare-kinds.r bench-declare.Post
 bench-declare-unique κs a x y s t p q = p ∙ sym q
 
-pub bench-hold-unique : Unique 0 bench-hold-kinds.ps bench-hold-kinds.r bench-hold.Post
-bench-hold-unique κs a x y s t p q = p ∙ sym q
-
 pub bench-frame-unique : UniqueLent 1 bench-frame-kinds.ps bench-frame-kinds.r bench-frame.Post (List ℕ) (λ κs s. s .1 .1 .1 .1 .0 .now)
 bench-frame-unique κs a x y s t p q = (p .0 ∙ sym (q .0), p .1 .output ∙ sym (q .1 .output))
 
-pub bench-tick-unique : UniqueLent 1 bench-tick-kinds.ps bench-tick-kinds.r bench-tick.Post (List ℕ) (λ κs s. s .1 .0 .now)
-bench-tick-unique κs a x y s t p q = (p .0 ∙ sym (q .0), p .1 .output ∙ sym (q .1 .output))
+pub bench-pass-unique : UniqueLent 1 bench-pass-kinds.ps bench-pass-kinds.r bench-pass.Post (List ℕ) (λ κs s. s .1 .1 .0 .now)
+bench-pass-unique κs a x y s t p q = (p .0 ∙ sym (q .0), p .1 .output ∙ sym (q .1 .output))
 
 -- ---- crate session
 pub session-number-unique : Unique 0 session-number-kinds.ps session-number-kinds.r session-number.Post

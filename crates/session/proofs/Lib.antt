@@ -1,4 +1,5 @@
 pub mod Laws
+mod Quiet
 pub mod Bounds
 mod Turn
 mod Examples

@@ -80,10 +80,10 @@ sizeOf (Hold i sample) = 7
 sizeOf (Frame first second third) = 5
 sizeOf (Ticks n) = 4
 
--- what is asked for is whole, and its ticks can be counted
+-- what is asked for is whole, there is the instance that it names, and its ticks can be counted
 abbrev pub Sound : List ℕ → Model → Asked → Type 0
 Sound rest m (Refused why) = Unit {0}
 Sound rest m (Declare number resolution) = 5 ≤ length rest
-Sound rest m (Hold i sample) = 7 ≤ length rest
+Sound rest m (Hold i sample) = (7 ≤ length rest) × (i < 16)
 Sound rest m (Frame first second third) = 5 ≤ length rest
 Sound rest m (Ticks n) = (4 ≤ length rest) × (m .tick + n < 2 ^ 32)

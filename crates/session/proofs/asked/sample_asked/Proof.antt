@@ -1,10 +1,12 @@
 -- `session::asked::sample_asked` meets its contract.
 -- Assumes nothing.
+use Rattle.bench.proofs.Laws.{known-below}
 use Rattle.session.proofs.asked.sample_asked.Statement.{statement}
 use Rattle.session.proofs.asked.sample_asked.Tie as tie
 use Rattle.session.specs.Asked.{sampleAsked}
 use borrow.Author.Needs.{needs}
 use borrow.Author.Tests.{le-ltb, lt-ltb, not-false, not-true}
+use mathlib.Core.Path.{sym, _∙_}
 
 returns : tie.Need-returns
 unfolding sampleAsked
@@ -40,7 +42,13 @@ allows-requires c κs = search needs
 
 returns-3 : tie.Need-returns-3
 unfolding sampleAsked
-returns-3 c = (rw (le-ltb _ _ (c .before .before .before .before .before .before .before .before .before .before .if1 .left), ← (c .before .before .before .known .ensures), not-false (c .before .before .before .known .result) (c .before .before .if2 .left), ← (c .before .before .before .before .triple .ensures), ← (c .before .allows .ensures), c .if3 .taken), c .before .before .before .before .before .before .before .before .before .before .if1 .left)
+returns-3 c =
+    let whole = c .before .before .before .before .before .before .before .before .before .before .if1 .left in
+    let named = c .before .before .before .known in
+    let known = not-false (named .result) (c .before .before .if2 .left) in (
+      rw (le-ltb _ _ whole, ← (named .ensures), known, ← (c .before .before .before .before .triple .ensures), ← (c .before .allows .ensures), c .if3 .taken),
+      (whole, known-below _ _ (sym (named .ensures) ∙ known) .1),
+    )
 
 returns-4 : tie.Need-returns-4
 unfolding sampleAsked
