@@ -98,6 +98,15 @@ refused_5() { IN 0 $light 8 && SA 1 $valid 100; }                # only instance
 refused_6() { IN 0 $light 8 && SA 0 $valid 255; }                # 8 bits: 0 to 254
 refused_7() { IN 0 $light 8 && SA 0 $valid 100 && TK 1 && TK 0; }  # no ticks; what came before is logged
 
-for session in full hour refused_1 refused_2 refused_3 refused_4 refused_5 refused_6 refused_7; do
+# 65,537 times 65,535 ticks, to the last number there is, 4,294,967,295; and one tick more
+refused_8() {
+    IN 0 $light 8
+    FR 01 00 63  # its events are switched off
+    yes "$(TK 65535)" | head -n 65537 | LC_ALL=C tr -d '\n'
+    FR 01 00 83  # its status, at the last tick: not enabled
+    TK 1
+}
+
+for session in full hour refused_1 refused_2 refused_3 refused_4 refused_5 refused_6 refused_7 refused_8; do
     $session >"$session.session"
 done

@@ -1,4 +1,5 @@
-/* A bench controller in twenty lines: document 01's full session, read through the header, and its log in hexadecimal. */
+/* A bench controller in twenty lines: document 01's full session, read through the header, and its log in hexadecimal; with room enough, and
+ * with too little. */
 #include "potmeander.h"
 
 #include <stdio.h>
@@ -10,11 +11,17 @@ static const uint8_t session[] = {0x49, 0x4E, 0x00, 0x04, 0x08,             /* I
                                   0x54, 0x4B, 0x00, 0x28,                   /* TK: forty ticks */
                                   0x46, 0x52, 0x01, 0x00, 0x8C};            /* FR: query its input value */
 
-int main(void)
+static void read_with(size_t room)
 {
     uint8_t log[400];
-    potmeander_reading r = potmeander_session(session, sizeof session, log, sizeof log);
+    potmeander_reading r = potmeander_session(session, sizeof session, log, room);
     printf("number %lu, offset %lu, written %lu, ticks %lu\n", r.number, r.offset, r.written, r.ticks);
     for (uint64_t i = 0; i < r.written; i++) printf("%02X%s", log[i], i + 1 < r.written ? " " : "\n");
+}
+
+int main(void)
+{
+    read_with(400);
+    read_with(15); /* the second event does not fit: 9, at the thirtieth of the forty ticks */
     return 0;
 }

@@ -1,6 +1,7 @@
 #!/bin/sh
 # Runs ./potmeander: sessions and logs far longer than its buffers, cut and fed in odd pieces, against one call of the second
 # implementation; inputs and outputs that fail; and every example.
+#   tests/program.sh [all]     all: the second implementation reads the example of seven years too, tick by tick, which takes minutes
 set -eu
 cd "$(dirname "$0")/.."
 . tests/lib/build.sh
@@ -105,9 +106,11 @@ examples/make.sh "$room"
 for session in examples/*.session; do
     name=${session%.session}
     cmp "$session" "$room/${session##*/}" || fail "examples/make.sh does not make $session"
-    one_call "$session" "$name"
     (cd "$room" && "$OLDPWD/potmeander") <"$session" >"$room/own.log" 2>"$room/own.said"
-    same "$name"
+    if [ "$name" != examples/refused_8 ] || [ "${1:-}" = all ]; then
+        one_call "$session" "$name"
+        same "$name"
+    fi
     cmp "$room/own.log" "$name.log"
     cmp "$room/own.said" "$name.said"
 done
