@@ -1,7 +1,8 @@
 /* One run whose cost is measured from outside.
- *   cost first|second INSTANCES quiet|busy TICKS
+ *   cost first|second INSTANCES quiet|sampled|busy TICKS
  * first is the proved library, second the plain C implementation. All instances are light with resolution 16.
  * quiet: one sample, and then ticks alone, at the default settings: a report every 600 ticks.
+ * sampled: the same, with a new sample for each instance every 20 ticks that stays inside the band.
  * busy: dead time 0, and at every tick a new sample for each instance, which sends an event. */
 #include "potmeander.h"
 #include "second/second.h"
@@ -10,7 +11,17 @@
 #include <stdlib.h>
 #include <string.h>
 
-enum { LIGHT = 4, RESOLUTION = 16, SA_SIZE = 7, EV_SIZE = 10, TK_MOST = 65535 };
+enum { LIGHT = 4, RESOLUTION = 16, REPORT = 600, IN_SIZE = 5, FR_SIZE = 5, SA_SIZE = 7, TK_SIZE = 4, EV_SIZE = 10, TK_MOST = 65535 };
+
+/* How often there are samples (0: once), the two values' high bytes, and whether dead time is set to 0. */
+typedef struct {
+    const char *name;
+    unsigned every;
+    uint8_t high[2];
+    bool at_once;
+} load;
+
+static const load loads[] = {{"quiet", 0, {100, 100}, false}, {"sampled", 20, {100, 99}, false}, {"busy", 1, {200, 50}, true}};
 
 typedef struct {
     uint8_t *bytes;
@@ -36,36 +47,44 @@ static void put_samples(session *s, unsigned instances, uint8_t high)
     for (unsigned i = 0; i < instances; i++) PUT(s, 'S', 'A', (uint8_t)i, 0, 0, high, (uint8_t)(7 * i));
 }
 
-static void declare(session *s, unsigned instances, bool busy)
+static void declare(session *s, unsigned instances, bool at_once)
 {
     for (unsigned i = 0; i < instances; i++) PUT(s, 'I', 'N', (uint8_t)i, LIGHT, RESOLUTION);
-    for (unsigned i = 0; i < instances && busy; i++) PUT(s, 'F', 'R', 0x01, (uint8_t)i, 0x32);
-    put_samples(s, instances, 100);
+    for (unsigned i = 0; i < instances && at_once; i++) PUT(s, 'F', 'R', 0x01, (uint8_t)i, 0x32);
 }
 
-static session make(unsigned instances, bool busy, unsigned long ticks)
+static session make(unsigned instances, const load *l, unsigned long ticks)
 {
-    session s = {malloc(64ul * instances + 64 + (busy ? ticks * (SA_SIZE * instances + 4) : ticks / 16000)), 0};
-    declare(&s, instances, busy);
-    if (!busy) put_ticks(&s, ticks);
-    for (unsigned long t = 0; t < ticks && busy; t++) {
-        put_samples(&s, instances, t % 2 == 0 ? 200 : 50);
-        put_ticks(&s, 1);
+    unsigned long every = l->every == 0 ? ticks : l->every, rounds = ticks / every;
+    size_t declaring = (IN_SIZE + FR_SIZE) * (size_t)instances;
+    session s = {malloc(declaring + rounds * (SA_SIZE * instances + TK_SIZE * (every / TK_MOST + 1))), 0};
+    declare(&s, instances, l->at_once);
+    for (unsigned long round = 0; round < rounds; round++) {
+        put_samples(&s, instances, l->high[round % 2]);
+        put_ticks(&s, every);
     }
     return s;
 }
 
+static const load *named(const char *name)
+{
+    for (size_t i = 0; i < sizeof loads / sizeof *loads; i++)
+        if (strcmp(loads[i].name, name) == 0) return &loads[i];
+    return NULL;
+}
+
 int main(int argc, char **argv)
 {
-    if (argc != 5) {
-        printf("usage: cost first|second INSTANCES quiet|busy TICKS\n");
+    const load *l = argc == 5 ? named(argv[3]) : NULL;
+    unsigned long ticks = argc == 5 ? (unsigned long)strtoull(argv[4], NULL, 10) : 0;
+    if (l == NULL || ticks == 0) {
+        printf("usage: cost first|second INSTANCES quiet|sampled|busy TICKS\n");
         return 2;
     }
-    bool first = strcmp(argv[1], "first") == 0, busy = strcmp(argv[3], "busy") == 0;
+    bool first = strcmp(argv[1], "first") == 0;
     unsigned instances = (unsigned)strtoull(argv[2], NULL, 10);
-    unsigned long ticks = (unsigned long)strtoull(argv[4], NULL, 10);
-    session s = make(instances, busy, ticks);
-    size_t log_len = (size_t)EV_SIZE * instances * (busy ? ticks + 2 : ticks / 600 + 2); /* never short of room for a tick */
+    session s = make(instances, l, ticks);
+    size_t log_len = (size_t)EV_SIZE * instances * (l->at_once ? ticks + 2 : ticks / REPORT + 2); /* never short of room for a tick */
     uint8_t *log = malloc(log_len);
     uint64_t number, written;
     if (first) {
