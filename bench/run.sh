@@ -7,8 +7,6 @@
 set -eu
 cd "$(dirname "$0")/.."
 . tests/lib/build.sh
-built=target/c
-mkdir -p "$built"
 c_library session
 c_object "$built/second3.o" tests/second/second.c -O3
 c_object "$built/cost.o" bench/cost.c -Itests -O3

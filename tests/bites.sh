@@ -5,8 +5,6 @@ set -eu
 cd "$(dirname "$0")/.."
 . tests/lib/build.sh
 seed=${1:-1} count=${2:-3000}
-built=target/c
-mkdir -p "$built"
 
 c_object "$built/bites.o" tests/bites.c -DSECOND_FAULTS
 c_object "$built/wrong.o" tests/second/second.c -DSECOND_FAULTS

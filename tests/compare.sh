@@ -5,8 +5,6 @@ set -eu
 cd "$(dirname "$0")/.."
 . tests/lib/build.sh
 seed=${1:-1} count=${2:-24000} profile=${3:-}
-built=target/c
-mkdir -p "$built"
 c_library session
 c_library trial
 

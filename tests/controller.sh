@@ -3,8 +3,6 @@
 set -eu
 cd "$(dirname "$0")/.."
 . tests/lib/build.sh
-built=target/c
-mkdir -p "$built"
 c_library session
 
 c_object "$built/controller.o" tests/controller.c

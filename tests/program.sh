@@ -5,8 +5,6 @@
 set -eu
 cd "$(dirname "$0")/.."
 . tests/lib/build.sh
-built=target/c
-mkdir -p "$built"
 
 c_object "$built/whole.o" tests/lib/whole.c
 c_object "$built/second.o" tests/second/second.c

@@ -4,6 +4,7 @@
 #   c_object OBJECT SOURCE [FLAG...]    compiles one source for x86-64, the library's machine
 #   c_program PROGRAM OBJECT...         links objects and archives
 #   c_run PROGRAM [ARGUMENT...]         runs a program; on a machine other than x86-64 under the kit's emulator
+#   built                               the folder for what is built
 # The kit is where `rt` is; RATTLE_HOME overrides that. It has no C headers, so those that the tests use are in tests/lib/include.
 
 c_kit=${RATTLE_HOME:-$(dirname "$(dirname "$(readlink -f "$(command -v rt)")")")}
@@ -14,8 +15,10 @@ if [ ! -x "$c_tools/bin/clang" ]; then
     exit 2
 fi
 
+built=target/c
+mkdir -p "$built"
+
 c_library() {
-    mkdir -p target
     rt staticlib "$1" >"target/staticlib.$1.log" 2>&1 || { cat "target/staticlib.$1.log" >&2; return 1; }
 }
 

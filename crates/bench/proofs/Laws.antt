@@ -7,6 +7,7 @@ use Rattle.bench.specs.Frame.{actedAt, counts, frameLog, frameModel, loa
 use Rattle.bench.specs.Tick.{onTick, sweep, tickLog, tickModel}
 use Rattle.bench.specs.declared.model.Model.{Model}
 use Rattle.record.specs.Log.{Logged, bytesOf}
+use Rattle.sensor.proofs.Laws.{both}
 use Rattle.sensor.specs.Fresh as sensors
 use Rattle.sensor.specs.Tick.{holding, ticked}
 use Rattle.sensor.specs.declared.settings.Sample.{Sample}
@@ -14,7 +15,7 @@ use borrow.Author.Tests.{le-leb, le-ltb, lt-leb, lt-ltb, ltb-true}
 use lib.Dec.{eqb, ltb}
 use lib.ListN.{List·getD-eq-default, getD, length, length-set, length-take, set, take}
 use lib.Seq.{getD-set-other, getD-set-same}
-use mathlib.Core.Bool.{Bool, cond, false, false≢true, true, true≢false, _&&_, _||_}
+use mathlib.Core.Bool.{Bool, cond, false, true, true≢false, _||_}
 use mathlib.Core.List.{List, []}
 use mathlib.Core.Logic.{_≢_}
 use mathlib.Core.Path.{ap, refl, sym, _≡_, _∙_}
@@ -35,10 +36,6 @@ module _ (m after : Model) (log : List Logged) (room : ℕ) where
   offered-full h = rw (lt-leb (length (bytesOf log)) room h)
 
 -- ---- who is declared
-pub both : (a b : Bool) → (a && b) ≡ true → (a ≡ true) × (b ≡ true)
-both true b h = (refl, h)
-both false b h = absurd (false≢true h)
-
 pub known-below : (m : Model) (i : ℕ) → known m i ≡ true → (i < m .count) × (i < 16)
 unfolding known
 known-below m i h =

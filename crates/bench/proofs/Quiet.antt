@@ -1,16 +1,14 @@
 -- Quiet ticks in one step: each of them logs nothing and lets timers fall, so that all come to the rested device.
 -- Assumes nothing.
 use Prim.Native.Nat.{ℕ, min, suc, zero, _+_, _-_, _<_, _^_, _≤_}
-use Rattle.bench.proofs.Laws.{both}
 use Rattle.bench.proofs.Sweep.{capped, sweep-more}
 use Rattle.bench.specs.Device.{running}
 use Rattle.bench.specs.Quiet.{inTime, passLog, passModel, passTicks, quietAll, quietTicks, restModel}
 use Rattle.bench.specs.Tick.{onTick, sentLog, sweep, sweepLog, tickLog, tickModel}
 use Rattle.bench.specs.declared.model.Model.{Model}
-use Rattle.record.specs.Log.{Logged}
+use Rattle.sensor.proofs.Laws.{both}
 use Rattle.sensor.proofs.Quiet.{quiet-tick, rested-none}
 use Rattle.sensor.specs.Quiet.{quietFor, rested}
-use Rattle.sensor.specs.Tick.{ticked}
 use Rattle.sensor.specs.declared.instance.Instance.{Instance}
 use Rattle.sensor.specs.declared.instance.Ticked.{Ticked}
 use borrow.Author.Tests.{le-leb, leb-true, lt-ltb, ltb-true, ne-eqb}

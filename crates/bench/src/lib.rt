@@ -1,4 +1,4 @@
-// The device: up to sixteen instances, the DTR0 that all share, and the tick number. What a taken record does to it and what it logs.
+// The device: up to sixteen instances, the DTR0 that all share, and the tick number. What a taken record does to it, but for a sample, and what it logs.
 // What logs is taken whole or not at all: where its records do not fit in the output's tail, device and output are as before.
 mod frames;
 mod model;

@@ -7,6 +7,7 @@ use Rattle.command.specs.declared.meaning.Command.the-variants.{Disable,
 use Rattle.command.specs.declared.meaning.Meaning.the-variants.{Ask, Ignored, Set}
 use Rattle.command.specs.declared.meaning.Meaning.{Meaning}
 use Rattle.command.specs.declared.meaning.Query.the-variants.{QueryDeadtime, QueryEnabled, QueryError, QueryFilter, QueryHysteresis, QueryHysteresisMin, QueryNext, QueryPriority, QueryReport, QueryResolution, QueryStatus, QueryType, QueryValue}
+use Rattle.sensor.proofs.Table.{both}
 use borrow.Author.Tests.{eqb-true, lt-ltb}
 use lib.Dec.{T, eqb, eqb→eq, ltb}
 use mathlib.Core.Bool.{Bool, cond, false, false≢true, true, _&&_}
@@ -72,10 +73,6 @@ apart a b e = sym (light-every a) ∙ ap lightMeaning e ∙ light-every b
 abbrev every : (Meaning → Bool) → List Meaning → Bool
 every test [] = test Ignored
 every test (m ∷ ms) = test m && every test ms
-
-both : (a b : Bool) → T (a && b) → T a × T b
-both true b t = (tt, t)
-both false b t = absurd t
 
 test-chosen : (test : Meaning → Bool) (m rest : Meaning) (b : Bool) → T (test m) → T (test rest) → T (test (cond b m rest))
 test-chosen test m rest true h k = h

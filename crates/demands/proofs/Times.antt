@@ -17,7 +17,7 @@ use Rattle.sensor.specs.declared.instance.Sent.{Sent}
 use borrow.Author.Tests.{le-leb, le-ltb, lt-leb, lt-ltb}
 use lib.Dec.{eqb, leb, ltb}
 use lib.ListN.{take}
-use mathlib.Core.Bool.{Bool, false, true, _&&_}
+use mathlib.Core.Bool.{Bool, and-false, false, true, _&&_}
 use mathlib.Core.List.{List, [], append-assoc, append-nil, _++_, _∷_}
 use mathlib.Core.Path.{ap, refl, sym, _∙_, _≡_}
 use native.Mathlib.Nat.{add-zero}
@@ -53,14 +53,10 @@ unfolding between
 between-early high none = refl
 between-early {low = low} high (more {t} l h p) = rw (le-ltb low t h, between-early high p)
 
-both-false : (b : Bool) → (b && false) ≡ false
-both-false true = refl
-both-false false = refl
-
 between-late : {high most : ℕ} {ts : List ℕ} (low : ℕ) → Within high most ts → between low high ts ≡ []
 unfolding between
 between-late low none = refl
-between-late {high = high} low (more {t} l h p) = rw (lt-leb t high l, both-false (ltb low t), between-late low p)
+between-late {high = high} low (more {t} l h p) = rw (lt-leb t high l, and-false (ltb low t), between-late low p)
 
 -- ---- each event bears the number of its tick
 noted-within : (now : ℕ) (b : Bool) → Within now (now + 1) (noted b (now + 1))

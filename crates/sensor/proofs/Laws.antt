@@ -18,6 +18,11 @@ use lib.Dec.{eqb}
 use mathlib.Core.Bool.{Bool, cond, false, false≢true, true, true≢false, _&&_}
 use mathlib.Core.Path.{_≡_, ap, refl, sym, _∙_}
 
+-- two tests that hold together
+pub both : (a b : Bool) → a && b ≡ true → (a ≡ true) × (b ≡ true)
+both true b e = (refl, e)
+both false b e = absurd (false≢true e)
+
 -- ---- a sensor keeps its type, and so what the gate goes by: the only laws that name the types
 taken-units : (k : Kind) (s : Settings) (held : Sample) → units (taken k s held) ≡ units k
 unfolding units taken

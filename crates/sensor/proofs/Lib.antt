@@ -1,5 +1,5 @@
 pub mod Laws
-mod Table
+pub mod Table
 pub mod Marked
 mod Examples
 pub mod Quiet

@@ -5,7 +5,7 @@ use Rattle.gate.proofs.Quiet as gates
 use Rattle.gate.specs.Gate.{after, sends}
 use Rattle.gate.specs.declared.Gate.the-variants.{Reported, Silent, Triggered}
 use Rattle.gate.specs.declared.Gate.{Gate}
-use Rattle.sensor.proofs.Laws.{only-valid, sent-gate}
+use Rattle.sensor.proofs.Laws.{both, only-valid, sent-gate}
 use Rattle.sensor.specs.Kind.{cause, rules, sent, taken}
 use Rattle.sensor.specs.Light.{lightSent, lightTaken}
 use Rattle.sensor.specs.Occupancy.{change, occupancySent, occupancyTaken, triggers, waits}
@@ -30,10 +30,6 @@ use native.Mathlib.Nat.{not-suc-le-zero}
 use native.Mathlib.Omega.{arith}
 
 -- ---- of tests
-both : (a b : Bool) → a && b ≡ true → (a ≡ true) × (b ≡ true)
-both true b e = (refl, e)
-both false b e = absurd (false≢true e)
-
 some : (b : Bool) (x n : ℕ) → n < cond b x 0 → (b ≡ true) × (n < x)
 some true x n h = (refl, h)
 some false x n h = absurd (not-suc-le-zero h)
