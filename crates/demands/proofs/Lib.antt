@@ -11,6 +11,7 @@ pub mod Table
 pub mod Demand1
 pub mod Turning
 pub mod Ends
+pub mod Steps
 pub mod Streams
 pub mod Instances
 pub mod Seen

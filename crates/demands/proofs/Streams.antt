@@ -3,23 +3,23 @@
 -- on the whole session comes to.
 -- Assumes nothing.
 use Prim.Native.Nat.{ℕ, _+_, _≤_}
+use Rattle.bench.specs.Device.{fresh}
 use Rattle.bench.specs.declared.model.Model.{Model}
-use Rattle.demands.proofs.Ends.{ends, unread-long}
+use Rattle.demands.proofs.Ends.{ends}
 use Rattle.demands.proofs.Following.{behind-nothing, nothing-left}
 use Rattle.demands.proofs.Onward.{untimed}
+use Rattle.demands.proofs.Steps.{Traced, holding, traced}
 use Rattle.demands.proofs.Turning.{no-ticks, number-over, over-number, still-none, streams-from}
-use Rattle.demands.specs.Streams.{Held, joined, over, result, start, streamed, turn, turnBy, turned}
-use Rattle.record.proofs.Laws.{put-front}
-use Rattle.record.proofs.Log.{bytes-append}
+use Rattle.demands.specs.Streams.{AsOne, Held, joined, over, overBy, result, start, streamed, turnBy, turned}
 use Rattle.record.specs.Log.{bytesOf}
-use Rattle.record.specs.Put.{put}
 use Rattle.session.specs.Session.{End, session}
-use Rattle.stream.specs.Stream.{ended, inputAfter, nextAfter, outputAfter, turnOf, turnTaken, unread}
-use Rattle.stream.specs.declared.Turn.{Turn}
-use lib.ListN.{drop, length, replicate, take}
-use lib.Seq.{take-append-seam}
-use mathlib.Core.Bool.{true}
-use mathlib.Core.List.{List, [], append-nil, _++_, _∷_}
+use Rattle.stream.specs.Stream.{Reached, goesBy, goesOn, nextAfter}
+use Rattle.stream.specs.declared.Next.the-variants.{EmptiedOutput, MoreInput, Over}
+use Rattle.stream.specs.declared.Next.{Next}
+use Rattle.stream.specs.declared.Progress.{Progress}
+use lib.ListN.{length, replicate}
+use mathlib.Core.Bool.{Bool, false, true}
+use mathlib.Core.List.{List, [], append-nil, _∷_}
 use mathlib.Core.Logic.{_≢_}
 use mathlib.Core.Path.{ap, refl, sym, _∙_, _≡_}
 use native.Mathlib.Nat.{zero-add}
@@ -89,29 +89,36 @@ pub comes-over : (m : Model) → length (m .instances) ≤ 16 → (room : ℕ) �
     → (turns : ℕ) × (over (run m pieces (replicate turns room)) ≡ true)
 comes-over m few room enough pieces = ends room enough m few pieces
 
--- The turns are those of `take_turn`: by its promise, from a buffer that holds what is unread, it hands back the model, the number and the
--- bytes passed, leaves at the front of the buffer what is unread then, and at the front of the output the bytes of the log.
-module _ (h : Held) (have : ℕ) (input output : List ℕ) (holds : take have input ≡ h .unread) where
-  abbrev t : Turn
-  t = turnTaken (h .model) have input output
+-- THE PROGRAM. What it does from turn to turn is promised by the functions of crate `stream`: `begin`, `next_after`, `step` and `goes_on`; and
+-- `Reached` says what steps come to, one after another, whatever came before each and with whatever output. Once no step is left to make, all
+-- the bytes that came and all that were logged are those of one call.
+module _ {steps : ℕ} {p : Progress} {input came log : List ℕ} (r : Reached steps p input came log) (none : Bool) (done : goesOn (p .number) none ≡ false) where
+  abbrev t : Traced p input came log
+  t = traced r
 
-  abbrev k : Held
-  k = turn (length output) h
+  ran : run fresh (t .pieces) (t .rooms) ≡ holding p input [] (t .offset) (t .logged)
+  ran = ap (λ l. run fresh l (t .rooms)) (sym (append-nil (t .pieces))) ∙ t .runs []
 
-  front : (l b : List ℕ) → l ≡ take (length l) (put 0 l b)
-  front l b = sym (ap (take (length l)) (put-front l b) ∙ take-append-seam l (drop (length l) b))
+  ran-over : over (run fresh (t .pieces) (t .rooms)) ≡ true
+  unfolding goesOn overBy
+  ran-over = rw ran (go (nextAfter (p .number)) done)
+    where
+      go : (n : Next) → goesBy n none ≡ false → overBy n [] ≡ true
+      go MoreInput d = refl
+      go EmptiedOutput d = sym d
+      go Over d = refl
 
-  pub turn-taken : (k .model ≡ t .model) × (k .number ≡ t .number) × (k .offset ≡ h .offset + t .passed)
-      × (k .unread ≡ take (t .unread) (inputAfter (h .model) have input output))
-      × (bytesOf (k .log) ≡ bytesOf (h .log) ++ take (t .written) (outputAfter (h .model) have input output))
-  unfolding turnTaken turnOf ended inputAfter outputAfter turned
-  turn-taken =
-      let e = session (h .model) (h .unread) (length output) in
-      let left = unread e (h .unread) in
-      rw holds (
-        refl,
-        refl,
-        refl,
-        front left input ∙ ap (λ n. take n (put 0 left input)) (unread-long (h .model) (h .unread) (length output)),
-        bytes-append (h .log) (e .log) ∙ ap (λ l. bytesOf (h .log) ++ l) (front (bytesOf (e .log)) output),
-      )
+  as-one : {e : End} → e ≡ result (run fresh (t .pieces) (t .rooms)) → AsOne p log e
+  as-one is = rw (is, ran) (record { model = refl; number = refl; passed = t .passed; log = t .bytes })
+
+  -- of a call with room for what was logged
+  pub program-room : (big : ℕ) → length log ≤ big → AsOne p log (session fresh came big)
+  program-room big enough =
+      let fits : length (bytesOf (run fresh (t .pieces) (t .rooms) .log)) ≤ big = rw (ran, t .bytes) enough in
+      as-one (ap (λ l. session fresh l big) (sym (t .all)) ∙ streams fresh (t .pieces) (t .rooms) ran-over big fits)
+
+  -- and of every one call that found room enough, so that its number is not 9
+  pub program-theorem : (big : ℕ) → session fresh came big .number ≢ 9 → AsOne p log (session fresh came big)
+  program-theorem big n =
+      let same : session fresh (joined (t .pieces)) big ≡ session fresh came big = ap (λ l. session fresh l big) (t .all) in
+      as-one (sym same ∙ stream-theorem fresh (t .pieces) (t .rooms) ran-over big (λ nine. n (sym (ap (λ e. e .number) same) ∙ nine)))

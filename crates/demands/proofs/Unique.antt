@@ -150,10 +150,14 @@ use Rattle.session.proofs.read_told.Kinds as session-read-told-kinds
 use Rattle.session.proofs.read_told.Reads as session-read-told
 use Rattle.session.proofs.record_asked.Kinds as session-record-asked-kinds
 use Rattle.session.proofs.record_asked.Reads as session-record-asked
+use Rattle.stream.proofs.begin.Kinds as stream-begin-kinds
+use Rattle.stream.proofs.begin.Reads as stream-begin
+use Rattle.stream.proofs.goes_on.Kinds as stream-goes-on-kinds
+use Rattle.stream.proofs.goes_on.Reads as stream-goes-on
 use Rattle.stream.proofs.next_after.Kinds as stream-next-after-kinds
 use Rattle.stream.proofs.next_after.Reads as stream-next-after
-use Rattle.stream.proofs.take_turn.Kinds as stream-take-turn-kinds
-use Rattle.stream.proofs.take_turn.Reads as stream-take-turn
+use Rattle.stream.proofs.step.Kinds as stream-step-kinds
+use Rattle.stream.proofs.step.Reads as stream-step
 use Rattle.trial.proofs.trial_session.Kinds as trial-session-kinds
 use Rattle.trial.proofs.trial_session.Reads as trial-session
 use Rattle.widen.proofs.information.Kinds as widen-information-kinds
@@ -412,11 +416,17 @@ pub potmeander-session-unique : UniqueLent 2 potmeander-session-kinds.ps potmean
 potmeander-session-unique κs a x y s t p q = (p .0 ∙ sym (q .0), p .1 ∙ sym (q .1))
 
 -- ---- crate stream
+pub stream-begin-unique : Unique 0 stream-begin-kinds.ps stream-begin-kinds.r stream-begin.Post
+stream-begin-unique κs a x y s t p q = p ∙ sym q
+
 pub stream-next-after-unique : Unique 0 stream-next-after-kinds.ps stream-next-after-kinds.r stream-next-after.Post
 stream-next-after-unique κs a x y s t p q = p ∙ sym q
 
-pub stream-take-turn-unique : UniqueLent 2 stream-take-turn-kinds.ps stream-take-turn-kinds.r stream-take-turn.Post (List ℕ × List ℕ) (λ κs s. (s .1 .0 .now, s .1 .1 .1 .0 .now))
-stream-take-turn-unique κs a x y s t p q = (p .0 ∙ sym (q .0), λ i. ((p .1 ∙ sym (q .1)) i, (p .2 ∙ sym (q .2)) i))
+pub stream-goes-on-unique : Unique 0 stream-goes-on-kinds.ps stream-goes-on-kinds.r stream-goes-on.Post
+stream-goes-on-unique κs a x y s t p q = p ∙ sym q
+
+pub stream-step-unique : UniqueLent 2 stream-step-kinds.ps stream-step-kinds.r stream-step.Post (List ℕ × List ℕ) (λ κs s. (s .1 .1 .0 .now, s .1 .1 .1 .0 .now))
+stream-step-unique κs a x y s t p q = (p .0 ∙ sym (q .0), λ i. ((p .1 ∙ sym (q .1)) i, (p .2 ∙ sym (q .2)) i))
 
 -- ---- crate trial
 pub trial-session-unique : UniqueLent 2 trial-session-kinds.ps trial-session-kinds.r trial-session.Post (List ℕ) (λ κs s. s .1 .1 .0 .now)

@@ -1,15 +1,17 @@
 -- Document 01, "The bench model": what the small program does. It reads a session in pieces through short buffers: "it goes on from the state
 -- an earlier call left, after number 2 with more input, after 9 with an emptied output and, inside a TK, a TK of the ticks that remain".
 -- Assumes nothing.
-use Prim.Native.Nat.{ℕ, _+_}
+use Prim.Native.Nat.{ℕ, _%_, _+_, _^_}
 use Rattle.bench.specs.declared.model.Model.{Model}
-use Rattle.record.specs.Log.{Logged}
+use Rattle.record.specs.Log.{Logged, bytesOf}
 use Rattle.session.specs.Session.{End, session}
 use Rattle.stream.specs.Stream.{nextAfter, unread}
 use Rattle.stream.specs.declared.Next.the-variants.{EmptiedOutput, MoreInput, Over}
 use Rattle.stream.specs.declared.Next.{Next}
+use Rattle.stream.specs.declared.Progress.{Progress}
 use mathlib.Core.Bool.{Bool, false, true}
 use mathlib.Core.List.{List, [], _++_, _∷_}
+use mathlib.Core.Path.{_≡_}
 
 -- what the program has between two turns: the model, the bytes that are unread, the pieces of input that are to come, the number of the last
 -- turn, the bytes of all records taken, and all of the log
@@ -77,3 +79,11 @@ joined (piece ∷ pieces) = piece ++ joined pieces
 -- what it came to, as one call would tell it
 abbrev pub result : Held → End
 result h = record { model = h .model; number = h .number; offset = h .offset; ticks = 0; log = h .log }
+
+-- the program's own count of what it came to: one call gives back the model and the number that its last step left, for its offset the bytes
+-- passed, which the program counts in eight bytes, and a log of the bytes that were logged
+pub record AsOne (p : Progress) (logged : List ℕ) (e : End) : Type 0 where
+  pub model : e .model ≡ p .model
+  pub number : e .number ≡ p .number
+  pub passed : p .passed ≡ e .offset % 2 ^ 64
+  pub log : bytesOf (e .log) ≡ logged

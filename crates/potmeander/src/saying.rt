@@ -1,10 +1,10 @@
 // The line on standard error: what was read and logged; the record that was refused, if one was; the read or write that failed, if one did.
 use crate::reading::Came;
-use crate::reading::Progress;
-use crate::reading::is_over;
+use crate::reading::Ran;
 use libc::STDERR_FILENO;
 
-pub fn say(p: Progress) {
+pub fn say(r: Ran) {
+    let p = r.progress;
     write(b"potmeander: ");
     count(p.records, b" record");
     write(b", ");
@@ -12,16 +12,17 @@ pub fn say(p: Progress) {
     write(b" read; ");
     count(p.model.tick as u64, b" tick");
     write(b"; ");
-    count(p.logged, b" byte");
+    count(r.logged, b" byte");
     write(b" logged");
-    refusal(p);
-    failure(p);
+    refusal(r);
+    failure(r);
     write(b"\n");
 }
 
 // A record that is cut is refused once no more input can come.
-fn refusal(p: Progress) {
-    let came = p.came;
+fn refusal(r: Ran) {
+    let p = r.progress;
+    let came = r.came;
     match came {
         Came::End => refused(p.number, p.passed),
         Came::Bytes => refused_for_good(p.number, p.passed),
@@ -30,7 +31,7 @@ fn refusal(p: Progress) {
 }
 
 fn refused_for_good(number: u8, offset: u64) {
-    if is_over(number) {
+    if !stream::goes_on(number, false) {
         refused(number, offset);
     }
 }
@@ -60,12 +61,13 @@ fn meaning(number: u8) {
     }
 }
 
-fn failure(p: Progress) {
-    let came = p.came;
+fn failure(r: Ran) {
+    let p = r.progress;
+    let came = r.came;
     match came {
         Came::Failure => read_failure(std::num::wrapping_add_u64(p.passed, p.unread as u64)),
-        Came::Bytes => write_failure(p.lost),
-        Came::End => write_failure(p.lost),
+        Came::Bytes => write_failure(r.lost),
+        Came::End => write_failure(r.lost),
     }
 }
 

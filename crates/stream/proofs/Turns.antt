@@ -1,83 +1,110 @@
--- What a turn comes to, from what each of its calls comes to; and its bounds.
+-- What a step comes to, from what each of its calls comes to; and its bounds.
 -- Assumes nothing.
-use Prim.Native.Nat.{ℕ, _-_, _≤_, min}
-use Rattle.bench.specs.declared.model.Model.{Model}
+use Prim.Native.Nat.{ℕ, _%_, _+_, _-_, _^_, _≤_, min}
+use Rattle.record.proofs.Laws.{put-front}
 use Rattle.record.specs.Log.{bytesOf}
 use Rattle.record.specs.Put.{put}
 use Rattle.session.proofs.Bounds.{session-offset, session-within}
 use Rattle.session.specs.Session.{outcome, session}
 use Rattle.session.specs.declared.reading.Outcome.{Outcome}
-use Rattle.stream.specs.Stream.{counted, ended, inputAfter, outputAfter, remaining, turnOf, turnTaken, unread}
-use Rattle.stream.specs.declared.Turn.{Turn}
-use lib.ListN.{drop, length, length-take, take}
-use lib.Seq.{slice, take-all, take-take}
+use Rattle.stream.proofs.Moves.{remaining-long}
+use Rattle.stream.specs.Stream.{counted, ended, held, inputAfter, outputAfter, progressed, remaining, stepped, unread}
+use Rattle.stream.specs.declared.Progress.{Progress}
+use Rattle.stream.specs.declared.Stepped.{Stepped}
+use lib.ListN.{drop, length, length-drop, length-take, take}
+use lib.Seq.{slice, take-all, take-append-seam, take-take}
 use mathlib.Core.List.{List}
 use mathlib.Core.Path.{ap, sym, _≡_, _∙_}
 use native.Mathlib.Decide.{decLe}
 use native.Mathlib.Nat.{sub-zero}
 use native.Mathlib.Omega.{arith}
 
-module _ (m : Model) (have : ℕ) (input output : List ℕ) {end : ℕ} {o : Outcome} (is-end : end ≡ min have (length input))
-    (is-read : o ≡ outcome (session m (take (end - 0) input) (length output))) where
-  is-held : take end input ≡ take have input
-  is-held = by (decLe have (length input))
+module _ (p : Progress) (came : ℕ) (input output : List ℕ) {end : ℕ} {o : Outcome} (is-end : end ≡ min (p .unread + came) (length input))
+    (is-read : o ≡ outcome (session (p .model) (take (end - 0) input) (length output))) where
+  is-held : take end input ≡ held p came input
+  is-held = by (decLe (p .unread + came) (length input))
     where
-      by : Dec (have ≤ length input) → take end input ≡ take have input
-      by (yes h) = let e : end ≡ have = omega arith in ap (λ (k : ℕ). take k input) e
-      by (no h) = take-all end input (omega arith) ∙ sym (take-all have input (omega arith))
+      by : Dec (p .unread + came ≤ length input) → take end input ≡ held p came input
+      by (yes h) = let e : end ≡ p .unread + came = omega arith in ap (λ (k : ℕ). take k input) e
+      by (no h) = take-all end input (omega arith) ∙ sym (take-all (p .unread + came) input (omega arith))
 
-  is-lent : take (end - 0) input ≡ take have input
+  is-lent : take (end - 0) input ≡ held p came input
   is-lent = ap (λ (k : ℕ). take k input) (sub-zero end) ∙ is-held
 
-  is-ended : o ≡ outcome (ended m have input output)
+  is-ended : o ≡ outcome (ended p came input output)
   unfolding ended
-  is-ended = is-read ∙ ap (λ (l : List ℕ). outcome (session m l (length output))) is-lent
+  is-ended = is-read ∙ ap (λ (l : List ℕ). outcome (session (p .model) l (length output))) is-lent
 
-  ended-within : ended m have input output .offset ≤ end
+  ended-within : ended p came input output .offset ≤ end
   unfolding ended
-  ended-within = omega (arith, session-offset m (take have input) (length output), length-take have input)
+  ended-within = omega (arith, session-offset (p .model) (held p came input) (length output), length-take (p .unread + came) input)
 
   pub within : o .offset ≤ end
   unfolding outcome
   within = rw is-ended ended-within
 
-  -- the three parts of a turn's promise
-  pub turn-told : {n left : ℕ} → n ≡ counted (take (o .offset - 0) input) → left ≡ end - o .offset
-      → _≡_ {A = Turn} (record { model = o .model; number = o .number; records = n; passed = o .offset; unread = left; written = o .written }) (turnTaken m have input output)
-  unfolding turnTaken turnOf outcome
-  turn-told {n} {left} is-n is-left =
-      let e = ended m have input output in
+  -- the three parts of a step's promise
+  pub step-told : {n left records passed : ℕ} → n ≡ counted (take (o .offset - 0) input) → left ≡ end - o .offset
+      → records ≡ (p .records + n) % 2 ^ 64 → passed ≡ (p .passed + o .offset) % 2 ^ 64
+      → _≡_ {A = Stepped} (record { progress = record { model = o .model; unread = left; number = o .number; records = records; passed = passed }; written = o .written }) (stepped p came input output)
+  unfolding stepped progressed outcome
+  step-told {n} {left} {records} {passed} is-n is-left is-records is-passed =
+      let e = ended p came input output in
       let at : o .offset ≡ e .offset = ap (λ (x : Outcome). x .offset) is-ended in
-      let inside : e .offset ≤ have = omega (arith, ended-within) in
-      let records : n ≡ counted (take (e .offset) (take have input)) =
-      is-n ∙ ap (λ (k : ℕ). counted (take k input)) (sub-zero (o .offset) ∙ at) ∙ ap counted (sym (take-take (e .offset) have input inside)) in
-      let rest : left ≡ length (take have input) - e .offset = omega (arith, length-take have input) in
+      let inside : e .offset ≤ p .unread + came = omega (arith, ended-within) in
+      let taken : n ≡ counted (take (e .offset) (held p came input)) =
+      is-n ∙ ap (λ (k : ℕ). counted (take k input)) (sub-zero (o .offset) ∙ at) ∙ ap counted (sym (take-take (e .offset) (p .unread + came) input inside)) in
+      let rest : left ≡ length (held p came input) - e .offset = omega (arith, length-take (p .unread + came) input) in
+      let counts : records ≡ (p .records + counted (take (e .offset) (held p came input))) % 2 ^ 64 = is-records ∙ ap (λ (k : ℕ). (p .records + k) % 2 ^ 64) taken in
+      let passes : passed ≡ (p .passed + e .offset) % 2 ^ 64 = is-passed ∙ ap (λ (k : ℕ). (p .passed + k) % 2 ^ 64) at in
       λ i.
       record {
-        model = is-ended i .model;
-        number = is-ended i .number;
-        records = records i;
-        passed = is-ended i .offset;
-        unread = rest i;
+        progress = record { model = is-ended i .model; unread = rest i; number = is-ended i .number; records = counts i; passed = passes i };
         written = is-ended i .written;
       }
 
-  pub turn-kept : {i : List ℕ} → i ≡ put 0 (remaining (o .ticks) (slice (o .offset) end input)) input → i ≡ inputAfter m have input output
+  pub step-kept : {i : List ℕ} → i ≡ put 0 (remaining (o .ticks) (slice (o .offset) end input)) input → i ≡ inputAfter p came input output
   unfolding inputAfter unread outcome
-  turn-kept {i} e =
-      let a = ended m have input output in
+  step-kept {i} e =
+      let a = ended p came input output in
       e
       ∙ ap (λ (x : Outcome). put 0 (remaining (x .ticks) (drop (x .offset) (take end input))) input) is-ended
       ∙ ap (λ (l : List ℕ). put 0 (remaining (a .ticks) (drop (a .offset) l)) input) is-held
 
-  pub turn-logged : {out : List ℕ} → out ≡ put 0 (bytesOf (session m (take (end - 0) input) (length output) .log)) output → out ≡ outputAfter m have input output
+  pub step-logged : {out : List ℕ} → out ≡ put 0 (bytesOf (session (p .model) (take (end - 0) input) (length output) .log)) output → out ≡ outputAfter p came input output
   unfolding outputAfter ended
-  turn-logged e = e ∙ ap (λ (l : List ℕ). put 0 (bytesOf (session m l (length output) .log)) output) is-lent
+  step-logged e = e ∙ ap (λ (l : List ℕ). put 0 (bytesOf (session (p .model) l (length output) .log)) output) is-lent
+
+-- ---- after a step
+front : (l b : List ℕ) → take (length l) (put 0 l b) ≡ l
+front l b = ap (take (length l)) (put-front l b) ∙ take-append-seam l (drop (length l) b)
+
+module _ (p : Progress) (came : ℕ) (input output : List ℕ) where
+  -- the log lies at the front of the output
+  pub step-front : take (stepped p came input output .written) (outputAfter p came input output) ≡ bytesOf (ended p came input output .log)
+  unfolding stepped outputAfter
+  step-front = front (bytesOf (ended p came input output .log)) output
+
+  -- what is unread lies at the front of the input buffer
+  pub step-unread : take (stepped p came input output .progress .unread) (inputAfter p came input output) ≡ unread (ended p came input output) (held p came input)
+  unfolding stepped progressed inputAfter unread
+  step-unread =
+      let e = ended p came input output in
+      let rest = drop (e .offset) (held p came input) in
+      let long : length (held p came input) - e .offset ≡ length (remaining (e .ticks) rest) = sym (remaining-long (e .ticks) rest ∙ length-drop (e .offset) (held p came input)) in
+      ap (λ (k : ℕ). take k (put 0 (remaining (e .ticks) rest) input)) long ∙ front (remaining (e .ticks) rest) input
+
+  pub step-left : stepped p came input output .progress .unread ≤ length (inputAfter p came input output)
+  unfolding stepped progressed unread
+  step-left =
+      let e = ended p came input output in
+      let rest = drop (e .offset) (held p came input) in
+      omega (arith, ap length step-unread, length-take (length (held p came input) - e .offset) (inputAfter p came input output), remaining-long (e .ticks) rest, length-drop (e .offset) (held p came input))
 
 -- what is unread lies in the input buffer, and the log in the output
-pub turn-within : (m : Model) (have : ℕ) (input output : List ℕ) {t : Turn} → t ≡ turnTaken m have input output
-    → (t .unread ≤ length input) × (t .written ≤ length output)
-unfolding turnTaken turnOf ended
-turn-within m have input output e =
-    let held : length (take have input) ≤ length input = omega (arith, length-take have input) in
-    rw e (omega arith, session-within m (take have input) (length output))
+pub step-within : (p : Progress) (came : ℕ) (input output : List ℕ) {s : Stepped} → s ≡ stepped p came input output
+    → (s .progress .unread ≤ length input) × (s .written ≤ length output)
+unfolding stepped progressed ended
+step-within p came input output e =
+    let most : length (held p came input) ≤ length input = omega (arith, length-take (p .unread + came) input) in
+    rw e (omega arith, session-within (p .model) (held p came input) (length output))

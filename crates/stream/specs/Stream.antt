@@ -1,8 +1,8 @@
 -- Document 01, "The bench model": a session read in pieces. After number 2 it goes on with more input, after 9 with an emptied output
 -- and, inside a TK, a TK of the ticks that remain.
 -- Assumes nothing.
-use Prim.Native.Nat.{ℕ, zero, suc, _%_, _+_, _-_, _/_, min}
-use Rattle.bench.specs.declared.model.Model.{Model}
+use Prim.Native.Nat.{ℕ, zero, suc, _%_, _+_, _-_, _/_, _^_, _≤_, min}
+use Rattle.bench.specs.Device.{fresh}
 use Rattle.record.specs.Log.{bytesOf}
 use Rattle.record.specs.Put.{put}
 use Rattle.session.specs.Asked.{markOf, word}
@@ -11,15 +11,27 @@ use Rattle.session.specs.declared.asked.Mark.the-variants.{Bus, Declaration, Me
 use Rattle.session.specs.declared.asked.Mark.{Mark}
 use Rattle.stream.specs.declared.Next.the-variants.{EmptiedOutput, MoreInput, Over}
 use Rattle.stream.specs.declared.Next.{Next}
-use Rattle.stream.specs.declared.Turn.{Turn}
+use Rattle.stream.specs.declared.Progress.{Progress}
+use Rattle.stream.specs.declared.Stepped.{Stepped}
 use lib.Dec.{eqb, ltb}
 use lib.ListN.{drop, length, take}
-use mathlib.Core.Bool.{cond}
+use lib.Seq.{slice}
+use mathlib.Core.Bool.{Bool, cond, false, not, true}
 use mathlib.Core.List.{List, [], _++_, _∷_}
+use mathlib.Core.Path.{_≡_}
 
--- what must come before the next turn
+-- what must come before the next step
 unfoldable pub nextAfter : (number : ℕ) → Next
 nextAfter number = cond (eqb number 0) MoreInput (cond (eqb number 2) MoreInput (cond (eqb number 9) EmptiedOutput Over))
+
+-- whether there is another step: not after a record that is refused for good, nor where more input is wanted and none can come
+abbrev pub goesBy : Next → (ended : Bool) → Bool
+goesBy MoreInput ended = not ended
+goesBy EmptiedOutput ended = true
+goesBy Over ended = false
+
+unfoldable pub goesOn : (number : ℕ) → (ended : Bool) → Bool
+goesOn number ended = goesBy (nextAfter number) ended
 
 -- ---- what is left unread
 -- a TK of n ticks
@@ -30,7 +42,7 @@ ticks n = 0x54 ∷ 0x4B ∷ n / 256 ∷ n % 256 ∷ []
 unfoldable pub remaining : (done : ℕ) → (rest : List ℕ) → List ℕ
 remaining done rest = cond (eqb done 0) rest (cond (ltb (length rest) 4) rest (ticks (word rest 2 - done) ++ drop 4 rest))
 
--- the part of the input that the next turn begins with
+-- the part of the input that the next step begins with
 unfoldable pub unread : End → (input : List ℕ) → List ℕ
 unread e input = remaining (e .ticks) (drop (e .offset) input)
 
@@ -56,30 +68,57 @@ countedIn (suc most) (b ∷ bytes) = 1 + countedIn most (drop (sizeAt (b ∷ byt
 unfoldable pub counted : List ℕ → ℕ
 counted bytes = countedIn (length bytes) bytes
 
--- ---- one turn
--- where the reading of the first `have` bytes of the input buffer ends
-unfoldable pub ended : Model → (have : ℕ) → (input output : List ℕ) → End
-ended m have input output = session m (take have input) (length output)
+-- ---- one step
+-- at the start: a fresh model, and nothing read
+unfoldable pub begun : Progress
+begun = record { model = fresh; unread = 0; number = 0; records = 0; passed = 0 }
 
--- what the turn comes to, of which `held` was read
-unfoldable pub turnOf : End → (held : List ℕ) → Turn
-turnOf e held =
+-- what is held of the input buffer: the unread bytes, and behind them those that came
+abbrev pub held : Progress → (came : ℕ) → (input : List ℕ) → List ℕ
+held p came input = take (p .unread + came) input
+
+-- where the reading of it ends
+unfoldable pub ended : Progress → (came : ℕ) → (input output : List ℕ) → End
+ended p came input output = session (p .model) (held p came input) (length output)
+
+-- what goes to the next step; the two counts have eight bytes, and wrap
+unfoldable pub progressed : Progress → End → (held : List ℕ) → Progress
+progressed p e held =
     record {
       model = e .model;
-      number = e .number;
-      records = counted (take (e .offset) held);
-      passed = e .offset;
       unread = length held - e .offset;
-      written = length (bytesOf (e .log));
+      number = e .number;
+      records = (p .records + counted (take (e .offset) held)) % 2 ^ 64;
+      passed = (p .passed + e .offset) % 2 ^ 64;
     }
 
-unfoldable pub turnTaken : Model → (have : ℕ) → (input output : List ℕ) → Turn
-turnTaken m have input output = turnOf (ended m have input output) (take have input)
+unfoldable pub stepped : Progress → (came : ℕ) → (input output : List ℕ) → Stepped
+stepped p came input output =
+    record {
+      progress = progressed p (ended p came input output) (held p came input);
+      written = length (bytesOf (ended p came input output .log));
+    }
 
 -- the input buffer after it: what is unread is at its front
-unfoldable pub inputAfter : Model → (have : ℕ) → (input output : List ℕ) → List ℕ
-inputAfter m have input output = put 0 (unread (ended m have input output) (take have input)) input
+unfoldable pub inputAfter : Progress → (came : ℕ) → (input output : List ℕ) → List ℕ
+inputAfter p came input output = put 0 (unread (ended p came input output) (held p came input)) input
 
 -- the output after it: the log is at its front
-unfoldable pub outputAfter : Model → (have : ℕ) → (input output : List ℕ) → List ℕ
-outputAfter m have input output = put 0 (bytesOf (ended m have input output .log)) output
+unfoldable pub outputAfter : Progress → (came : ℕ) → (input output : List ℕ) → List ℕ
+outputAfter p came input output = put 0 (bytesOf (ended p came input output .log)) output
+
+-- ---- step after step
+-- n bytes come before a step only where more input must come first; there is no step after a record that is refused for good
+abbrev pub Comes : Next → (n : ℕ) → Type 0
+Comes MoreInput n = Unit {0}
+Comes EmptiedOutput n = n ≡ 0
+Comes Over n = ⊥
+
+-- what so many steps come to: p, the input buffer after them, all the bytes that came, and all that were logged. Before each step n bytes
+-- came behind the unread ones, which stayed, and the output was emptied
+pub data Reached : (steps : ℕ) → (p : Progress) → (input came log : List ℕ) → Type 0 where
+  start : (input : List ℕ) → Reached 0 begun input [] []
+  next : {steps : ℕ} {p : Progress} {input came log : List ℕ} → Reached steps p input came log
+      → (n : ℕ) (filled output : List ℕ) → Comes (nextAfter (p .number)) n → take (p .unread) filled ≡ take (p .unread) input → p .unread + n ≤ length filled
+      → Reached (suc steps) (stepped p n filled output .progress) (inputAfter p n filled output)
+      (came ++ slice (p .unread) (p .unread + n) filled) (log ++ take (stepped p n filled output .written) (outputAfter p n filled output))

@@ -1,30 +1,49 @@
-// Reading a session in pieces, through buffers that are shorter than it (document 01, "The bench model"): one turn reads what is held,
+// Reading a session in pieces, through buffers that are shorter than it (document 01, "The bench model"): one step reads what is held,
 // keeps what is unread at the front of the input buffer, and its number says what must come before the next.
 use bench::Model;
 ghost use Prim.Native.Nat.{_*_, _+_, _-_, _≤_, min};
 ghost use Rattle.record.specs.Put.{put};
 ghost use Rattle.session.specs.Asked.{markOf};
-ghost use Rattle.stream.specs.Stream.{counted, inputAfter, nextAfter, outputAfter, remaining, sizeAt, sizeBy, turnTaken};
+ghost use Rattle.stream.specs.Stream.{begun, counted, goesOn, inputAfter, nextAfter, outputAfter, remaining, sizeAt, sizeBy, stepped};
 ghost use lib.ListN.{length};
 ghost use lib.Seq.{slice};
 ghost use mathlib.Core.Path.{_≡_};
 
-// What must come before the next turn: more input; an emptied output; nothing, since a record is refused for good.
+// What must come before the next step: more input; an emptied output; nothing, since a record is refused for good.
 pub enum Next {
     MoreInput,
     EmptiedOutput,
     Over,
 }
 
-// What a turn came to. records, passed: the records taken whole, and their bytes. unread: the bytes at the front of the input buffer that
-// the next turn begins with. written: the bytes of log at the front of the output.
-pub struct Turn {
+// What goes from one step to the next. unread: the bytes at the front of the input buffer that the next step begins with. number: the last
+// step's. records, passed: the records taken whole, and their bytes.
+pub struct Progress {
     pub model: Model,
+    pub unread: usize,
     pub number: u8,
     pub records: u64,
-    pub passed: usize,
-    pub unread: usize,
+    pub passed: u64,
+}
+
+// What a step came to. written: the bytes of log at the front of the output.
+pub struct Stepped {
+    pub progress: Progress,
     pub written: usize,
+}
+
+// From a fresh model, with nothing read.
+pub fn begin() -> Progress
+    ensures { λ r. ⌜ r ≡ begun ⌝ }
+{
+    let model = bench::fresh();
+    Progress {
+        model,
+        unread: 0,
+        number: 0,
+        records: 0,
+        passed: 0,
+    }
 }
 
 // After 2 it goes on with more input, after 9 with an emptied output. After 0 all was read, and more may come.
@@ -39,25 +58,51 @@ pub fn next_after(number: u8) -> Next
     }
 }
 
-// Reads the first `have` bytes of the input buffer, and moves what is unread of them to its front: inside a TK, a TK of the ticks that
-// remain.
-pub fn take_turn(model: Model, input: &mut [u8], have: usize, output: &mut [u8]) -> Turn
-    ensures { λ r. ⌜ (r ≡ turnTaken model have (now (input .entry)) (now (output .entry))) × (now (input .exit) ≡ inputAfter model have (now (input .entry)) (now (output .entry))) × (now (output .exit) ≡ outputAfter model have (now (input .entry)) (now (output .entry))) ⌝ }
+// Whether there is another step. ended: no more input can come.
+pub fn goes_on(number: u8, ended: bool) -> bool
+    ensures { λ r. ⌜ r ≡ goesOn number ended ⌝ }
 {
-    let end = least(have, input.len());
-    let o = session::read(model, &input[0..end], output);
+    let next = next_after(number);
+    match next {
+        Next::MoreInput => !ended,
+        Next::EmptiedOutput => true,
+        Next::Over => false,
+    }
+}
+
+// Reads what is held, the unread bytes and the `came` bytes behind them, and moves what is unread then to the front of the input buffer:
+// inside a TK, a TK of the ticks that remain.
+pub fn step(p: Progress, came: usize, input: &mut [u8], output: &mut [u8]) -> Stepped
+    ensures { λ r. ⌜ (r ≡ stepped p came (now (input .entry)) (now (output .entry))) × (now (input .exit) ≡ inputAfter p came (now (input .entry)) (now (output .entry))) × (now (output .exit) ≡ outputAfter p came (now (input .entry)) (now (output .entry))) ⌝ }
+{
+    let end = held(p.unread, came, input.len());
+    let o = session::read(p.model, &input[0..end], output);
     let at = o.offset;
-    let records = count(&input[0..at]);
+    let taken = count(&input[0..at]);
     keep(input, at, end, o.ticks);
     let left = end - at;
-    let next = o.model;
-    Turn {
-        model: next,
-        number: o.number,
-        records,
-        passed: at,
+    let model = o.model;
+    let progress = Progress {
+        model,
         unread: left,
+        number: o.number,
+        records: std::num::wrapping_add_u64(p.records, taken),
+        passed: std::num::wrapping_add_u64(p.passed, at as u64),
+    };
+    Stepped {
+        progress,
         written: o.written,
+    }
+}
+
+// How many bytes are held, of a buffer of `all`.
+fn held(unread: usize, came: usize, all: usize) -> usize
+    ensures { λ r. ⌜ r ≡ min (unread + came) all ⌝ }
+{
+    if unread < all {
+        unread + least(came, all - unread)
+    } else {
+        all
     }
 }
 

@@ -1,0 +1,99 @@
+-- `stream::step` meets its contract: each part of the promise is what one call gives.
+-- Assumes nothing.
+use Prim.Native.Nat.{_≤_}
+use Rattle.stream.proofs.Turns.{step-kept, step-logged, step-told, within}
+use Rattle.stream.proofs.step.Statement.{statement}
+use Rattle.stream.proofs.step.Tie as tie
+use borrow.Author.Needs.{needs}
+use mathlib.Core.Path.{refl}
+
+held-requires : tie.Need-held-requires
+held-requires c κs = search needs
+
+sub-read : tie.Need-sub-read
+sub-read c = search needs
+
+part-read-start : tie.Need-part-read-start
+part-read-start c = search needs
+
+part-read-end : tie.Need-part-read-end
+part-read-end c = search needs
+
+read-requires : tie.Need-read-requires
+read-requires c κs = search needs
+
+sub-count : tie.Need-sub-count
+sub-count c = search needs
+
+part-count-start : tie.Need-part-count-start
+part-count-start c = search needs
+
+part-count-end : tie.Need-part-count-end
+part-count-end c =
+    let r = c .before .before .before in
+    let l = r .before .before .before .before in
+    let a = l .before .before .before .args in
+    let inside : r .read .result .offset ≤ l .held .result = within (a .p) (a .came) (a .input .now) (a .output .now) (l .held .ensures) (r .read .ensures .0) in
+    search needs
+
+count-requires : tie.Need-count-requires
+count-requires c κs = search needs
+
+keep-requires : tie.Need-keep-requires
+keep-requires c κs =
+    let r = c .before .before .before .before .before .before in
+    let l = r .before .before .before .before in
+    let a = l .before .before .before .args in
+    let inside : r .read .result .offset ≤ l .held .result = within (a .p) (a .came) (a .input .now) (a .output .now) (l .held .ensures) (r .read .ensures .0) in
+    search needs
+
+sub-left : tie.Need-sub-left
+sub-left c =
+    let r = c .before .before .before .before .before .before .before .before .before in
+    let l = r .before .before .before .before in
+    let a = l .before .before .before .args in
+    within (a .p) (a .came) (a .input .now) (a .output .now) (l .held .ensures) (r .read .ensures .0)
+
+wrapping-add-u64-requires : tie.Need-wrapping-add-u64-requires
+wrapping-add-u64-requires c κs = search needs
+
+wrapping-add-u64-requires-2 : tie.Need-wrapping-add-u64-requires-2
+wrapping-add-u64-requires-2 c κs = search needs
+
+same-length : tie.Need-same-length
+same-length c = search needs
+
+same-length-2 : tie.Need-same-length-2
+same-length-2 c = search needs
+
+returns : tie.Need-returns
+returns c =
+    let r = c .before .before .before .before .before .before .before .before .before .before .before .before in
+    let l = r .before .before .before .before in
+    let a = l .before .before .before .args in (
+      step-told (a .p) (a .came) (a .input .now) (a .output .now) (l .held .ensures) (r .read .ensures .0) (c .before .before .before .before .before .before .before .count .ensures) refl
+          (c .before .wrapping-add-u64 .ensures) (c .wrapping-add-u642 .ensures),
+      step-kept (a .p) (a .came) (a .input .now) (a .output .now) (l .held .ensures) (r .read .ensures .0) (c .before .before .before .before .before .keep .ensures),
+      step-logged (a .p) (a .came) (a .input .now) (a .output .now) (l .held .ensures) (r .read .ensures .0) (r .read .ensures .1),
+    )
+
+pub step-spec : {M : Type 1} → statement M
+step-spec =
+    tie.close
+    (tie.spec
+    held-requires
+    sub-read
+    part-read-start
+    part-read-end
+    read-requires
+    sub-count
+    part-count-start
+    part-count-end
+    count-requires
+    keep-requires
+    sub-left
+    wrapping-add-u64-requires
+    wrapping-add-u64-requires-2
+    same-length
+    same-length-2
+    returns)
