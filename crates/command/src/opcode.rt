@@ -1,8 +1,10 @@
-// The command or query that an opcode means: one decision for each type.
+// The command or query that an opcode means: one decision for each type, by the opcodes that the type carries and those that both have.
 use crate::meaning::Command;
 use crate::meaning::Meaning;
 use crate::meaning::Query;
 use sensor::Kind;
+use sensor::Light;
+use sensor::Occupancy;
 ghost use Rattle.command.specs.Meaning.{lightMeaning, meaning, occupancyMeaning};
 ghost use mathlib.Core.Path.{_≡_};
 
@@ -10,27 +12,27 @@ pub fn light_meaning(opcode: u8) -> Meaning
     ensures { λ r. ⌜ r ≡ lightMeaning opcode ⌝ }
 {
     match opcode {
-        0x30 => Meaning::Set(Command::SetReport),
-        0x31 => Meaning::Set(Command::SetHysteresis),
-        0x32 => Meaning::Set(Command::SetDeadtime),
-        0x33 => Meaning::Set(Command::SetHysteresisMin),
-        0x3C => Meaning::Ask(Query::QueryHysteresisMin),
-        0x3D => Meaning::Ask(Query::QueryDeadtime),
-        0x3E => Meaning::Ask(Query::QueryReport),
-        0x3F => Meaning::Ask(Query::QueryHysteresis),
-        0x61 => Meaning::Set(Command::SetPriority),
-        0x62 => Meaning::Set(Command::Enable),
-        0x63 => Meaning::Set(Command::Disable),
-        0x68 => Meaning::Set(Command::SetFilter),
-        0x80 => Meaning::Ask(Query::QueryType),
-        0x81 => Meaning::Ask(Query::QueryResolution),
-        0x82 => Meaning::Ask(Query::QueryError),
-        0x83 => Meaning::Ask(Query::QueryStatus),
-        0x84 => Meaning::Ask(Query::QueryPriority),
-        0x86 => Meaning::Ask(Query::QueryEnabled),
-        0x8C => Meaning::Ask(Query::QueryValue),
-        0x8D => Meaning::Ask(Query::QueryNext),
-        0x90 => Meaning::Ask(Query::QueryFilter),
+        Light::SET_REPORT => Meaning::Set(Command::SetReport),
+        Light::SET_HYSTERESIS => Meaning::Set(Command::SetHysteresis),
+        Light::SET_DEADTIME => Meaning::Set(Command::SetDeadtime),
+        Light::SET_HYSTERESIS_MIN => Meaning::Set(Command::SetHysteresisMin),
+        Light::QUERY_HYSTERESIS_MIN => Meaning::Ask(Query::QueryHysteresisMin),
+        Light::QUERY_DEADTIME => Meaning::Ask(Query::QueryDeadtime),
+        Light::QUERY_REPORT => Meaning::Ask(Query::QueryReport),
+        Light::QUERY_HYSTERESIS => Meaning::Ask(Query::QueryHysteresis),
+        Kind::SET_PRIORITY => Meaning::Set(Command::SetPriority),
+        Kind::ENABLE => Meaning::Set(Command::Enable),
+        Kind::DISABLE => Meaning::Set(Command::Disable),
+        Kind::SET_FILTER => Meaning::Set(Command::SetFilter),
+        Kind::QUERY_TYPE => Meaning::Ask(Query::QueryType),
+        Kind::QUERY_RESOLUTION => Meaning::Ask(Query::QueryResolution),
+        Kind::QUERY_ERROR => Meaning::Ask(Query::QueryError),
+        Kind::QUERY_STATUS => Meaning::Ask(Query::QueryStatus),
+        Kind::QUERY_PRIORITY => Meaning::Ask(Query::QueryPriority),
+        Kind::QUERY_ENABLED => Meaning::Ask(Query::QueryEnabled),
+        Kind::QUERY_VALUE => Meaning::Ask(Query::QueryValue),
+        Kind::QUERY_NEXT => Meaning::Ask(Query::QueryNext),
+        Kind::QUERY_FILTER => Meaning::Ask(Query::QueryFilter),
         0x00..=0x2F
         | 0x34..=0x3B
         | 0x40..=0x60
@@ -46,23 +48,23 @@ pub fn occupancy_meaning(opcode: u8) -> Meaning
     ensures { λ r. ⌜ r ≡ occupancyMeaning opcode ⌝ }
 {
     match opcode {
-        0x22 => Meaning::Set(Command::SetReport),
-        0x23 => Meaning::Set(Command::SetDeadtime),
-        0x2C => Meaning::Ask(Query::QueryDeadtime),
-        0x2E => Meaning::Ask(Query::QueryReport),
-        0x61 => Meaning::Set(Command::SetPriority),
-        0x62 => Meaning::Set(Command::Enable),
-        0x63 => Meaning::Set(Command::Disable),
-        0x68 => Meaning::Set(Command::SetFilter),
-        0x80 => Meaning::Ask(Query::QueryType),
-        0x81 => Meaning::Ask(Query::QueryResolution),
-        0x82 => Meaning::Ask(Query::QueryError),
-        0x83 => Meaning::Ask(Query::QueryStatus),
-        0x84 => Meaning::Ask(Query::QueryPriority),
-        0x86 => Meaning::Ask(Query::QueryEnabled),
-        0x8C => Meaning::Ask(Query::QueryValue),
-        0x8D => Meaning::Ask(Query::QueryNext),
-        0x90 => Meaning::Ask(Query::QueryFilter),
+        Occupancy::SET_REPORT => Meaning::Set(Command::SetReport),
+        Occupancy::SET_DEADTIME => Meaning::Set(Command::SetDeadtime),
+        Occupancy::QUERY_DEADTIME => Meaning::Ask(Query::QueryDeadtime),
+        Occupancy::QUERY_REPORT => Meaning::Ask(Query::QueryReport),
+        Kind::SET_PRIORITY => Meaning::Set(Command::SetPriority),
+        Kind::ENABLE => Meaning::Set(Command::Enable),
+        Kind::DISABLE => Meaning::Set(Command::Disable),
+        Kind::SET_FILTER => Meaning::Set(Command::SetFilter),
+        Kind::QUERY_TYPE => Meaning::Ask(Query::QueryType),
+        Kind::QUERY_RESOLUTION => Meaning::Ask(Query::QueryResolution),
+        Kind::QUERY_ERROR => Meaning::Ask(Query::QueryError),
+        Kind::QUERY_STATUS => Meaning::Ask(Query::QueryStatus),
+        Kind::QUERY_PRIORITY => Meaning::Ask(Query::QueryPriority),
+        Kind::QUERY_ENABLED => Meaning::Ask(Query::QueryEnabled),
+        Kind::QUERY_VALUE => Meaning::Ask(Query::QueryValue),
+        Kind::QUERY_NEXT => Meaning::Ask(Query::QueryNext),
+        Kind::QUERY_FILTER => Meaning::Ask(Query::QueryFilter),
         0x00..=0x21
         | 0x24..=0x2B
         | 0x2D..=0x60

@@ -1,4 +1,4 @@
-// The types of sensor. All else knows a type by these functions alone: a further type is a variant, a file and an arm in each.
+// The types of sensor. All else knows a type by these functions and its opcodes alone: a further type is a variant, a file and an arm in each.
 use crate::light::Light;
 use crate::occupancy::Occupancy;
 use crate::settings::Sample;
@@ -15,6 +15,33 @@ pub enum Kind {
 }
 
 impl Kind {
+    // The opcodes that both types have (document 01, "Frames"). Light and Occupancy each carry their own.
+    pub const SET_PRIORITY: u8 = 0x61;
+
+    pub const ENABLE: u8 = 0x62;
+
+    pub const DISABLE: u8 = 0x63;
+
+    pub const SET_FILTER: u8 = 0x68;
+
+    pub const QUERY_TYPE: u8 = 0x80;
+
+    pub const QUERY_RESOLUTION: u8 = 0x81;
+
+    pub const QUERY_ERROR: u8 = 0x82;
+
+    pub const QUERY_STATUS: u8 = 0x83;
+
+    pub const QUERY_PRIORITY: u8 = 0x84;
+
+    pub const QUERY_ENABLED: u8 = 0x86;
+
+    pub const QUERY_VALUE: u8 = 0x8C;
+
+    pub const QUERY_NEXT: u8 = 0x8D;
+
+    pub const QUERY_FILTER: u8 = 0x90;
+
     // Ticks that one step of its multipliers stands for.
     pub fn units(self) -> Units
         ensures { λ r. ⌜ r ≡ units self ⌝ }

@@ -46,6 +46,23 @@ impl Light {
     // The filter bits kept: bit 0.
     pub const KEPT: u8 = 1;
 
+    // The opcodes of light alone (document 01, "Frames").
+    pub const SET_REPORT: u8 = 0x30;
+
+    pub const SET_HYSTERESIS: u8 = 0x31;
+
+    pub const SET_DEADTIME: u8 = 0x32;
+
+    pub const SET_HYSTERESIS_MIN: u8 = 0x33;
+
+    pub const QUERY_HYSTERESIS_MIN: u8 = 0x3C;
+
+    pub const QUERY_DEADTIME: u8 = 0x3D;
+
+    pub const QUERY_REPORT: u8 = 0x3E;
+
+    pub const QUERY_HYSTERESIS: u8 = 0x3F;
+
     pub fn fresh(resolution: u8) -> Instance
         ensures { λ r. ⌜ r ≡ lightFresh resolution ⌝ }
     {

@@ -36,6 +36,15 @@ impl Occupancy {
     // The filter bits kept: bits 0 to 4.
     pub const KEPT: u8 = 31;
 
+    // The opcodes of occupancy alone (document 01, "Frames").
+    pub const SET_REPORT: u8 = 0x22;
+
+    pub const SET_DEADTIME: u8 = 0x23;
+
+    pub const QUERY_DEADTIME: u8 = 0x2C;
+
+    pub const QUERY_REPORT: u8 = 0x2E;
+
     pub fn fresh() -> Instance
         ensures { λ r. ⌜ r ≡ occupancyFresh ⌝ }
     {
