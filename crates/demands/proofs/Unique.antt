@@ -16,6 +16,7 @@ use Rattle.bench.proofs.pass.Kinds as bench-pass-kinds
 use Rattle.bench.proofs.pass.Reads as bench-pass
 use Rattle.command.proofs.acted.Kinds as command-acted-kinds
 use Rattle.command.proofs.acted.Reads as command-acted
+use Rattle.command.proofs.apply as command-apply
 use Rattle.command.proofs.asked.Kinds as command-asked-kinds
 use Rattle.command.proofs.asked.Reads as command-asked
 use Rattle.command.proofs.changed.Kinds as command-changed-kinds
@@ -27,8 +28,7 @@ use Rattle.command.proofs.obeyed.Reads as command-obeyed
 use Rattle.command.proofs.occupancy_meaning.Kinds as command-occupancy-meaning-kinds
 use Rattle.command.proofs.occupancy_meaning.Reads as command-occupancy-meaning
 use Rattle.command.specs.Setting.{changed}
-use Rattle.command.specs.declared.meaning.Command.{Command}
-use Rattle.demands.specs.Unique.{Unique, UniqueLent}
+use Rattle.demands.specs.Unique.{Unique, UniqueLent, UniqueWalked}
 use Rattle.gate.proofs.Gate.decided.Kinds as Gate-decided-kinds
 use Rattle.gate.proofs.Gate.decided.Reads as Gate-decided
 use Rattle.gate.proofs.Gate.shut_for.Kinds as Gate-shut-for-kinds
@@ -139,6 +139,7 @@ use Rattle.sensor.proofs.occupancy.Occupancy.settled.Kinds as Occupancy-settled
 use Rattle.sensor.proofs.occupancy.Occupancy.settled.Reads as Occupancy-settled
 use Rattle.sensor.proofs.occupancy.Occupancy.taken.Kinds as Occupancy-taken-kinds
 use Rattle.sensor.proofs.occupancy.Occupancy.taken.Reads as Occupancy-taken
+use Rattle.sensor.proofs.settings.Settings as settings
 use Rattle.sensor.specs.declared.settings.Settings.{Settings}
 use Rattle.session.proofs.number.Kinds as session-number-kinds
 use Rattle.session.proofs.number.Reads as session-number
@@ -170,8 +171,15 @@ use Rattle.widen.proofs.mask.Kinds as widen-mask-kinds
 use Rattle.widen.proofs.mask.Reads as widen-mask
 use Rattle.widen.proofs.widened.Kinds as widen-widened-kinds
 use Rattle.widen.proofs.widened.Reads as widen-widened
+use base.Stored.{coded-set}
+use borrow.Fn.World.{World}
+use contract.Lifetimes.{Lfts}
+use contract.Monad.{fact}
+use denote.Triple.Clauses.{AtExit, Clauses}
+use denote.Triple.Entry.{Args, Res}
 use mathlib.Core.List.{List}
-use mathlib.Core.Path.{sym, _≡_, _∙_}
+use mathlib.Core.Logic.{∥∥₁-elim}
+use mathlib.Core.Path.{refl, sym, _≡_, _∙_}
 
 -- ---- crate widen
 pub widen-widened-unique : Unique 0 widen-widened-kinds.ps widen-widened-kinds.r widen-widened.Post
@@ -376,9 +384,21 @@ command-asked-unique κs a x y s t p q = p ∙ sym q
 pub command-acted-unique : Unique 0 command-acted-kinds.ps command-acted-kinds.r command-acted.Post
 command-acted-unique κs a x y s t p q = p ∙ sym q
 
--- `apply` is walked by hand, and the checker makes no name for its promise: of the definition that the promise cites
-pub command-apply-unique : (entry x y : Settings) (command : Command) (dtr0 kept : ℕ) → x ≡ changed entry command dtr0 kept → y ≡ changed entry command dtr0 kept → x ≡ y
-command-apply-unique entry x y command dtr0 kept p q = p ∙ sym q
+-- `apply` is walked by hand: its promise is the `ensures` of the contract that the checker exports
+abbrev apply-contract : (w : World) → Clauses (w .𝓤) command-apply.ended
+apply-contract w = command-apply.clauses (w .𝓤) (w .H) (w .𝓖 .A) (w .𝓜 .mem) (w .𝓡 .run)
+
+-- and that is this equation at every model
+pub command-apply-says : (w : World) (κs : Lfts 1) (a : Args command-apply.signature κs) (x : Res command-apply.signature κs) (s : AtExit command-apply.ended κs)
+    → apply-contract w κs a .ensures tt x s ≡ fact (w .𝓤) (s .0 .now ≡ changed (a .0 .now) (a .1 .0) (a .1 .1 .0) (a .1 .1 .1 .0))
+command-apply-says w κs a x s = refl
+
+-- an equation of settings that holds at a resource is so: settings are coded by numbers, so it has one proof at most
+settings-told : (w : World) (x y : Settings) (m : w .M) → fact (w .𝓤) (x ≡ y) .holds m → x ≡ y
+settings-told w x y m h = ∥∥₁-elim h (coded-set (settings.the-row .coded) x y) (λ e. e .0)
+
+pub command-apply-unique : UniqueWalked command-apply.ended apply-contract Settings (λ κs s. s .0 .now)
+command-apply-unique w κs a x y s t g m n p q = (refl, settings-told w _ _ m p ∙ sym (settings-told w _ _ n q))
 
 -- ---- crate bench
 pub bench-fresh-unique : Unique 0 bench-fresh-kinds.ps bench-fresh-kinds.r bench-fresh.Post
