@@ -55,12 +55,15 @@ second_reading second_in_pieces(second_model *model, const uint8_t *session, siz
     bool goes_on = true;
     while (goes_on) {
         bool whole_log = p.log_len - p.so_far.written <= output_piece(&p);
+        second_reading before = p.so_far;
         const uint8_t *at = session + p.so_far.offset;
         size_t left = session_len - (size_t)p.so_far.offset, count = smaller(left, INPUT_PIECE);
         if (p.so_far.ticks > 0) read_rest_of_tk(&p, at);
         else read_records(&p, at, count);
         bool more_input = p.so_far.number == 0 || (p.so_far.number == 2 && count < left);
-        bool more_output = p.so_far.number == 9 && !whole_log;
+        /* A wrong model may be refused with an emptied output for ever. */
+        bool stuck = p.so_far.offset == before.offset && p.so_far.ticks == before.ticks;
+        bool more_output = p.so_far.number == 9 && !whole_log && !stuck;
         goes_on = more_output || (more_input && p.so_far.offset < session_len);
     }
     return p.so_far;

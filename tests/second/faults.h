@@ -12,15 +12,15 @@
     X(DEAD_TIME_FORGETS, "occupancy change during dead time forgotten") \
     X(DTR0_PER_INSTANCE, "DTR0 kept per instance, loaded for the first alone") \
     /* Session and log records, Numbers */ \
-    X(ONE_BEFORE_TWO, "cut mark is unknown: 1 before 2") \
-    X(TWO_BEFORE_ONE, "unknown mark near the end is cut: 2 before 1") \
-    X(THREE_BEFORE_TWO, "cut IN is late: 3 before 2") \
-    X(FOUR_BEFORE_THREE, "late IN is not modelled: 4 before 3") \
-    X(SIX_BEFORE_FIVE, "undeclared SA has a bad status: 6 before 5") \
+    X(ONE_BEFORE_TWO, "cut mark: 1 before 2") \
+    X(TWO_BEFORE_ONE, "unknown mark with fewer than four bytes left: 2 before 1") \
+    X(THREE_BEFORE_TWO, "cut IN after a record of another kind: 3 before 2") \
+    X(FOUR_BEFORE_THREE, "late or skipped IN that is not modelled: 4 before 3") \
+    X(SIX_BEFORE_FIVE, "undeclared SA with status above 2: 6 before 5") \
     X(LATE_IN_TAKEN, "IN after a record of another kind taken") \
-    X(FRAME_NOT_ANOTHER_KIND, "IN after FR taken") \
+    X(FRAME_NOT_ANOTHER_KIND, "FR not counted as a record of another kind than IN") \
     X(FIFTEEN_INSTANCES, "IN number 15 refused") \
-    X(OCCUPANCY_ANY_RESOLUTION, "occupancy with resolution 1 taken") \
+    X(OCCUPANCY_RESOLUTION_1, "occupancy with resolution 1 taken") \
     X(RESOLUTION_24_REFUSED, "light with resolution 24 refused") \
     X(MASK_MEASURED, "light value 2^resolution - 1 taken") \
     X(OCCUPANCY_NOT_READY, "occupancy status 1 taken") \
@@ -30,30 +30,30 @@
     X(LAST_TICK_PASSED, "tick number starts again at 0 after the last") \
     X(LIMIT_INSIDE_TK, "TK past the last tick carried out up to it") \
     X(FULL_LEAVES_EVENTS, "tick without room leaves its first events") \
-    X(FULL_SCRIBBLES, "tick without room writes past the log") \
+    X(FULL_SCRIBBLES, "tick without room writes its first events past the log") \
     X(FULL_KEEPS_STATE, "tick without room keeps its state") \
     X(FULL_TICKS_OFF_BY_ONE, "ticks carried out count the one without room") \
     X(FULL_UNDOES_TK, "no room inside a TK undoes the whole TK") \
     X(FULL_BY_INSTANCES, "room wanted for an event of every instance") \
     X(FULL_BYTE_EARLY, "the last byte of the output not used") \
-    X(REFUSED_QUERY_LATCHES, "query without room latches") \
-    X(FIRST_TICK_ALONE, "only the first tick of a TK worked") \
+    X(REFUSED_8D_USES_UP, "8D without room uses up a latched byte") \
+    X(FIRST_TICK_ALONE, "only the first tick of a TK worked, the others only counted") \
     X(SAMPLE_AT_ONCE, "sample taken at once, not at the next tick") \
     /* Widths */ \
     X(ZERO_PADDED, "inputValue padded with zeros") \
-    X(NOT_SHIFTED, "inputValue is the measured value, not widened") \
+    X(NOT_WIDENED, "inputValue is the measured value, not widened") \
     X(BYTE_TOO_MANY, "a byte too many at resolutions 8, 16 and 24") \
-    X(INFORMATION_LOW_BITS, "information from the low ten bits") \
+    X(INFORMATION_LOW_BITS, "information from the low ten bits at resolutions above 10") \
     X(INFORMATION_ZERO_PADDED, "information padded with zeros") \
     X(MASK_MISSING, "MASK missing: the last value shown") \
     X(MASK_ONLY_FAILED, "MASK missing for status 1") \
-    X(FAILURE_CLEARS_VALUE, "failure clears the occupancy value") \
+    X(FAILURE_CLEARS_VALUE, "failure clears the occupancy value, the old one of Table 11 too") \
     /* Each type carries its own defaults */ \
     X(DEADTIME_OF_LIGHT, "occupancy starts with light's deadtime") \
     X(REPORT_OF_LIGHT, "occupancy starts with light's report") \
     X(FILTER_OF_LIGHT, "occupancy starts with light's filter") \
     X(MIN_ROUNDED_UP, "hysteresisMin rounded up at start") \
-    X(MIN_NOT_LIMITED, "hysteresisMin not held at 255 at start") \
+    X(MIN_NOT_LIMITED, "hysteresisMin at start cut to its low byte, not held at 255") \
     X(STARTS_WITHOUT_REPORT, "report timer not started at start") \
     X(STARTS_IN_DEAD_TIME, "dead time runs at start") \
     /* Frames */ \
@@ -63,61 +63,62 @@
     X(HYSTERESIS_HIGH_TAKEN, "hysteresis above 25 taken") \
     X(HYSTERESIS_25_REFUSED, "hysteresis 25 not taken") \
     X(FILTER_NOT_MASKED, "filter bits that are not kept, kept") \
-    X(LIGHT_OBEYS_OCCUPANCY, "light obeys occupancy opcodes") \
-    X(OCCUPANCY_OBEYS_LIGHT, "occupancy obeys light opcodes") \
+    X(LIGHT_OBEYS_OCCUPANCY, "light obeys occupancy's setting commands") \
+    X(OCCUPANCY_OBEYS_LIGHT, "occupancy obeys light's setting commands") \
     X(ALL_ADDRESS_IGNORED, "byte 1 FF ignored") \
-    X(OTHER_ADDRESS_OBEYED, "byte 1 03 obeyed") \
-    X(INSTANCE_BYTE_MASKED, "byte 2 read without its high bits") \
+    X(OTHER_ADDRESS_COUNTS, "byte 1 03 counts") \
+    X(INSTANCE_BYTE_MASKED, "byte 2 read without its three high bits") \
     X(NOT_READY_IS_ERROR, "status 1 answered as an error") \
-    X(NO_ERROR_ANSWERED, "error byte 0 answered") \
+    X(NO_ERROR_ANSWERED, "error query answers 0 when not failed") \
     X(STATUS_BITS_SWAPPED, "status bits swapped") \
     X(DISABLED_ANSWERED, "enabled query answers 0 when disabled") \
     X(LATCH_SHARED, "one latch for all instances") \
     X(LATCH_NOT_CONSUMED, "latched byte not consumed") \
-    X(LATCH_USED_UP_ANSWERS, "8D answers after the latch is used up") \
+    X(LATCH_EMPTY_ANSWERS, "8D answers when used up or when nothing was latched") \
     X(LATCH_LIVE, "8D answers from the value of now") \
     /* Timers */ \
     X(REPORT_BELOW_DEAD_TIME, "report not held at dead time") \
-    X(REPORT_RESTARTED_BY_SET, "new report time serves at once") \
-    X(DUE_IS_STOPPED, "report set while due starts the timer") \
-    X(DEAD_TIME_SET_AT_ONCE, "new dead time serves at once") \
+    X(REPORT_RESTARTED_BY_SET, "report set above 0 always starts the timer") \
+    X(DUE_IS_STOPPED, "report set above 0 while due starts the timer") \
+    X(DEAD_TIME_SET_AT_ONCE, "deadtime set while dead time runs starts it anew") \
     X(DEAD_TIME_0_STOPS, "deadtime set to 0 ends the running dead time") \
     X(REPORT_0_RUNS_ON, "report set to 0 does not stop the timer") \
     X(REPORT_0_STAYS_DUE, "report set to 0 leaves a due report due") \
     X(STOPPED_NOT_STARTED, "report set above 0 does not start a stopped timer") \
-    X(DUE_PASSES, "due report does not stay due") \
+    X(DUE_PASSES, "due report passes: the timer starts again at the next tick") \
     X(CHANGE_KEEPS_REPORT, "event by change does not start the report timer") \
-    X(REPORT_NO_DEAD_TIME, "event by report does not start dead time") \
+    X(REPORT_NO_DEAD_TIME, "event by the report alone does not start dead time") \
     X(TIMERS_REST_DISABLED, "timers stand still while disabled") \
     X(ENABLE_STARTS_REPORT, "enabling starts the report timer") \
     /* One tick */ \
-    X(PRIORITY_5_WHEN_DUE, "priority 5 whenever a report is due") \
+    X(PRIORITY_5_NOT_ALONE, "priority 5 whenever the due report is a cause, the only one or not") \
     X(REPORT_OWN_PRIORITY, "report sent with the instance's priority") \
-    X(REPEAT_WHEN_DUE, "bit 2 whenever a report is due") \
-    X(INFORMATION_TICK_BEFORE, "information from the tick before") \
+    X(REPEAT_NOT_ALONE, "bit 2 whenever the due report is a cause, the only one or not") \
+    X(INFORMATION_TICK_BEFORE, "information from the value before this tick") \
     X(SENDS_DISABLED, "events sent while disabled") \
     X(SENDS_FAILED, "report sent in a failure") \
     X(FALLING_ORDER, "instances in falling order") \
     X(LIGHT_REPORT_UNFILTERED, "light report sent without filter bit 0") \
     X(REPEAT_UNFILTERED, "occupancy report sent without filter bit 2") \
-    X(REPEAT_BY_STATE, "occupancy report wants filter bit 0 or 1 too") \
+    X(REPEAT_BY_STATE, "occupancy report wants filter bit 0 too when occupied, else bit 1") \
     X(HYSTERESIS_0_SENDS, "hysteresis 0 sends by the band") \
-    X(BAND_0_AT_START, "no band is a band from 0 to 0") \
+    X(NO_BAND_IS_0, "no band is a band from 0 to 0") \
     X(BAND_EDGE_OUTSIDE, "band edges are outside the band") \
-    X(BAND_NEVER_BY_REPORT, "band not moved by a report outside it") \
-    X(BAND_WRAPS, "low below 0") \
-    X(BAND_NOT_DISCARDED, "failure keeps the band") \
+    X(BAND_NEVER_BY_REPORT, "band neither made nor moved by the report alone") \
+    X(BAND_WRAPS, "low wraps round below 0") \
+    X(BAND_KEPT_FAILED, "status 2 keeps the band") \
     X(BAND_KEPT_NOT_READY, "status 1 keeps the band") \
     X(WIDTH_SMALLER, "width is the smaller of the two") \
     X(WIDTH_ROUNDED_UP, "width rounded up") \
-    X(ONE_TRIGGER, "two changes at once give one trigger") \
-    X(FILTER_WHEN_SENT, "trigger without its filter bit waits") \
+    X(ONE_TRIGGER, "two changes at once give Occupied or Vacant alone") \
+    X(FILTER_WHEN_SENT, "trigger without its filter bit waits for the next filter") \
+    X(TRIGGER_UNFILTERED, "trigger without its filter bit waits and sends") \
     X(NEW_FILTER_KEEPS, "new filter does not drop waiting triggers") \
     X(DISABLING_KEEPS, "disabling keeps waiting triggers") \
     X(FAILURE_KEEPS, "failure keeps waiting triggers") \
     X(DISABLED_WAITS, "trigger in a disabled time waits") \
-    X(DISABLED_NOT_COMPARED, "old value not followed while disabled") \
-    X(EVENT_KEEPS_WAITING, "event clears one waiting trigger")
+    X(DISABLED_NOT_TAKEN, "occupancy value not taken while disabled") \
+    X(EVENT_KEEPS_WAITING, "event clears only the first waiting trigger")
 
 enum {
     NO_FAULT,
