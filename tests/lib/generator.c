@@ -508,15 +508,125 @@ static void far_ticks(generator *g, test_case *c)
     mixed_traffic(g);
 }
 
+/* ---- Profile j: every third byte ---- */
+
+/* An instance of each type, and the deadtime that both are set to. */
+typedef struct {
+    unsigned light, occupancy, deadtime;
+} pair;
+
+/* Settings that are not the DTR0 that the third byte finds nor, but for light's filter, the defaults; a report every 20 ticks. */
+static void settle(generator *g, unsigned number, unsigned deadtime)
+{
+    bool light = g->instance[number].type == LIGHT;
+    put_command(g, number, 0x62);
+    set_to(g, number, 0x61, 3);
+    set_to(g, number, 0x68, light ? 1 : (uint8_t)ONE_OF(g, 0x07, 0x0F, 0x17, 0x1F));
+    set_times(g, number, (uint8_t)deadtime, 1);
+    if (light) set_to(g, number, 0x31, (uint8_t)ONE_OF(g, 1, 10, 25));
+}
+
+/* Samples that are a change for certain: light from one end of its range to the other, occupancy between occupied and vacant. */
+static void swing(generator *g, pair p)
+{
+    sketch *light = &g->instance[p.light], *occupancy = &g->instance[p.occupancy];
+    uint32_t quarter = light_most(light) / 4;
+    light->base = light->base > 2 * quarter ? below(g, quarter) : light_most(light) - below(g, quarter);
+    occupancy->base = (~occupancy->base & 2) | below(g, 2);
+    put_sa(g, p.light, 0, light->base);
+    put_sa(g, p.occupancy, 0, occupancy->base);
+}
+
+static void put_to_both(generator *g, pair p, unsigned opcode)
+{
+    put_command(g, p.light, opcode);
+    put_command(g, p.occupancy, opcode);
+}
+
+/* The third byte after a DTR0 that each setting of the type would take, and that is none of its defaults. */
+static void put_third_byte(generator *g, pair p, unsigned byte)
+{
+    load_dtr0(g, 2);
+    put_command(g, p.light, byte);
+    load_dtr0(g, 5);
+    put_command(g, p.occupancy, byte);
+}
+
+static void query_settings(generator *g, pair p)
+{
+    static const uint8_t both[] = {0x83, 0x84, 0x90}, light[] = {0x3C, 0x3D, 0x3E, 0x3F}, occupancy[] = {0x2C, 0x2E};
+    for (unsigned i = 0; i < sizeof both; i++) put_to_both(g, p, both[i]);
+    for (unsigned i = 0; i < sizeof light; i++) put_command(g, p.light, light[i]);
+    for (unsigned i = 0; i < sizeof occupancy; i++) put_command(g, p.occupancy, occupancy[i]);
+}
+
+/* One third byte to both, three times: while dead time runs, a change waits and a value is latched; two ticks before the reports
+ * are due, with the latch used up; and disabled in a failure. Opcodes 33 and 3C show what DTR0 holds. */
+static void turn(generator *g, pair p, unsigned byte)
+{
+    settle(g, p.light, p.deadtime);
+    settle(g, p.occupancy, p.deadtime);
+    swing(g, p);
+    put_tk(g, 1);
+    swing(g, p);
+    put_tk(g, 1);
+    put_to_both(g, p, 0x8C);
+    put_third_byte(g, p, byte);
+    query_settings(g, p);
+    for (unsigned i = 0; i < 2; i++) put_to_both(g, p, 0x8D);
+    put_tk(g, p.deadtime - 1 + 18);
+    put_third_byte(g, p, byte);
+    put_to_both(g, p, 0x8D);
+    put_to_both(g, p, 0x8C);
+    put_tk(g, 2);
+    put_to_both(g, p, 0x63);
+    put_sa(g, p.light, 2, 0);
+    put_sa(g, p.occupancy, 2, 0);
+    put_tk(g, 1);
+    put_third_byte(g, p, byte);
+    put_to_both(g, p, 0x86);
+    put_command(g, p.light, 0x33);
+    put_command(g, p.light, 0x3C);
+    put_tk(g, p.deadtime - 1);
+}
+
+/* Sixteen third bytes in a row. Where a swing and its dead time come first, the later ones go the other way. */
+static void third_bytes(generator *g, unsigned first)
+{
+    unsigned light = below(g, 2);
+    pair p = {.light = light, .occupancy = 1 - light, .deadtime = ONE_OF(g, 3, 4, 6)};
+    for (unsigned i = 0; i < 2; i++) {
+        if (i == p.light) declare(g, LIGHT, 10 + below(g, 15));
+        else declare(g, OCCUPANCY, 2);
+    }
+    if (chance(g, 50)) swing(g, p), put_tk(g, 31);
+    for (unsigned i = 0; i < 16; i++) turn(g, p, first + i);
+}
+
+/* ---- The choice by the seed ---- */
+
+/* The place of a seed among a hundred in a row, which have a hundred different ones. */
+static unsigned place_of(uint64_t seed)
+{
+    return (unsigned)(seed * 37 % 100);
+}
+
 /* Of a hundred seeds in a row, how many go to each profile. */
 static char profile_of(uint64_t seed)
 {
     static const struct { unsigned up_to; char profile; } shares[] = {
-        {18, 'a'}, {35, 'b'}, {52, 'c'}, {67, 'd'}, {70, 'e'}, {82, 'f'}, {94, 'g'}, {98, 'h'}, {100, 'i'},
+        {17, 'a'}, {32, 'b'}, {47, 'c'}, {60, 'd'}, {63, 'e'}, {75, 'f'}, {86, 'g'}, {90, 'h'}, {92, 'i'}, {100, 'j'},
     };
-    unsigned place = (unsigned)(seed * 37 % 100), i = 0;
-    while (place >= shares[i].up_to) i++;
+    unsigned i = 0;
+    while (place_of(seed) >= shares[i].up_to) i++;
     return shares[i].profile;
+}
+
+/* The eight places of profile j have sixteen third bytes each, the hundreds of seeds in turn one half of all and the other: within
+ * any 200 seeds in a row all 256 go to a light and to an occupancy instance. */
+static unsigned first_third_byte(uint64_t seed)
+{
+    return 16 * (place_of(seed) % 8 + (unsigned)(seed / 100 % 2) * 8);
 }
 
 test_case generate(uint64_t seed, char profile)
@@ -532,7 +642,8 @@ test_case generate(uint64_t seed, char profile)
     case 'f': damaged(&g); break;
     case 'g': c.log_len = below(&g, 401); short_output(&g); break;
     case 'h': last_ticks(&g, &c); break;
-    default: far_ticks(&g, &c); break;
+    case 'i': far_ticks(&g, &c); break;
+    default: third_bytes(&g, first_third_byte(seed)); break;
     }
     c.session = buffer;
     c.session_len = g.len;

@@ -15,6 +15,7 @@
  *   g  outputs of 0 to 400 bytes
  *   h  ticks near 4,294,967,295
  *   i  tick numbers of four bytes
+ *   j  every third byte, to light and to occupancy; all of them within 200 seeds
  */
 typedef struct {
     uint64_t seed;
@@ -27,7 +28,7 @@ typedef struct {
 
 enum { GENERATOR_LOG_MAX = 4096 };
 
-/* The profile is one of a to i, or 0: the seed chooses. */
+/* The profile is one of a to j, or 0: the seed chooses. */
 test_case generate(uint64_t seed, char profile);
 
 #endif

@@ -76,6 +76,26 @@
     X(LATCH_NOT_CONSUMED, "latched byte not consumed") \
     X(LATCH_EMPTY_ANSWERS, "8D answers when used up or when nothing was latched") \
     X(LATCH_LIVE, "8D answers from the value of now") \
+    /* Frames: "anything else is ignored: taken, no change, no answer" */ \
+    X(ANSWERS_85, "answers 85") \
+    X(ANSWERS_87_FAILED, "answers 87 while failed") \
+    X(LIGHT_ANSWERS_40, "light answers 40") \
+    X(OCCUPANCY_ANSWERS_2D, "occupancy answers 2D") \
+    X(LIGHT_ANSWERS_OCCUPANCY, "light answers occupancy's queries") \
+    X(OCCUPANCY_ANSWERS_LIGHT, "occupancy answers light's queries") \
+    X(OPCODE_00_STARTS_DEAD_TIME, "00 starts dead time") \
+    X(OPCODE_20_CLEARS_WAITING, "20 clears the waiting triggers") \
+    X(OPCODE_21_STARTS_REPORT, "21 starts the report timer") \
+    X(OPCODE_24_ENDS_DEAD_TIME, "24 ends dead time") \
+    X(OPCODE_34_SETS_MIN, "34 sets hysteresisMin") \
+    X(OPCODE_60_SETS_PRIORITY, "60 sets the priority") \
+    X(OPCODE_64_DISABLES, "64 disables") \
+    X(OPCODE_65_ENABLES, "65 enables") \
+    X(OPCODE_69_SETS_FILTER, "69 sets the filter") \
+    X(OPCODE_8B_LATCHES, "8B latches the input value") \
+    X(OPCODE_8E_USES_UP, "8E uses up a latched byte") \
+    X(OPCODE_C1_LOADS_DTR0, "C1 as byte 3 loads DTR0 with C1") \
+    X(OPCODE_FF_STOPS_REPORT, "FF stops the report timer") \
     /* Timers */ \
     X(REPORT_BELOW_DEAD_TIME, "report not held at dead time") \
     X(REPORT_RESTARTED_BY_SET, "report set above 0 always starts the timer") \
