@@ -6,6 +6,7 @@ scratch=$(mktemp -d)
 trap 'rm -rf "$scratch"' EXIT
 mkdir -p "$scratch/.ci" "$scratch/tests" "$scratch/bin"
 cp .ci/run "$scratch/.ci/run"
+echo 'test one.sh' >"$scratch/tests/claims.txt"
 for tool in bash sh cat dirname mktemp rm tail tee; do
     ln -s "$(command -v "$tool")" "$scratch/bin/$tool"
 done
@@ -40,5 +41,8 @@ rt_says 2 'rt: bad crates.txt' && expect 1 '0 passed, 2 failed'  # no count at a
 rm "$scratch/bin/rt" && expect 1 '0 passed, 2 failed'            # no rt
 test_says 1
 rt_says 0 '3 passed, 0 failed' && expect 1 '3 passed, 1 failed'  # a failing test
-rm "$scratch/tests/one.sh" && expect 1 '3 passed, 1 failed'      # no test
-echo "the gate fails where it must, in 7 ways"
+rm "$scratch/tests/one.sh" && expect 1 '3 passed, 2 failed'      # no test, and the one that is named
+test_says 0
+echo 'test two.sh' >>"$scratch/tests/claims.txt" && expect 1 '4 passed, 1 failed'  # a test that was taken away
+rm "$scratch/tests/claims.txt" && expect 1 '4 passed, 1 failed'  # no list of tests
+echo "the gate fails where it must, in 9 ways"
