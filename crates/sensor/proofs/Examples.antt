@@ -1,18 +1,8 @@
--- Worked examples by computation: IEC 62386-303, Table 11, and the full session of document 01.
+-- Worked examples by computation: IEC 62386-303, Table 11.
 -- Assumes nothing.
-use Prim.Native.Nat.{ℕ, suc, zero, _+_}
-use Rattle.gate.specs.Gate.{after, decided}
-use Rattle.gate.specs.Timers.{deadTime, due, fallen, fallenReport, reportTime, started, startedReport}
+use Prim.Native.Nat.{ℕ, _+_}
 use Rattle.sensor.proofs.Table.{each}
-use Rattle.sensor.specs.Fresh.{declared, fresh, lightFresh}
-use Rattle.sensor.specs.Kind.{cause, information, input, repeat, rules, sent, taken, units}
-use Rattle.sensor.specs.Light.{lightCause, lightInformation, lightInput, lightRepeat, lightSent, lightTaken, minimum, moved, outside, width}
 use Rattle.sensor.specs.Occupancy.{change, occupancyInput, triggers}
-use Rattle.sensor.specs.Tick.{closed, holding, kindAfter, sentAfter, ticked}
-use Rattle.sensor.specs.declared.instance.Instance.{Instance}
-use Rattle.sensor.specs.declared.instance.Sent.the-variants.{Event, Nothing}
-use Rattle.sensor.specs.declared.instance.Sent.{Sent}
-use Rattle.sensor.specs.declared.settings.Sample.{Sample}
 use Rattle.widen.specs.Width.{widened}
 use lib.Dec.{eqb, eqb→eq}
 use mathlib.Core.List.{List, List·Memᴰ, [], map, _∷_}
@@ -63,38 +53,3 @@ table-11 t m = eqb→eq (triggers (t .old) (t .new)) (t .fires) (each (λ (u : T
 states : map (λ (v : ℕ). occupancyInput (record { value = v; waiting = 0 })) (0 ∷ 1 ∷ 2 ∷ 3 ∷ []) ≡ (0x00 ∷ 0x55 ∷ 0xAA ∷ 0xFF ∷ [])
 unfolding occupancyInput widened
 states = refl
-
--- ---- the full session: one light instance of 8 bits, 100 for one tick and then 94 for 40
-record Entry : Type 0 where
-  tick : ℕ
-  priority : ℕ
-  information : ℕ
-
-abbrev noted : (tick : ℕ) → Sent → List Entry → List Entry
-noted tick Nothing later = later
-noted tick (Event priority information) later = record { tick = tick; priority = priority; information = information } ∷ later
-
--- the events of n ticks after `now`
-unfoldable logged : (n now : ℕ) → Instance → List Entry
-logged zero now x = []
-logged (suc n) now x = noted (suc now) (ticked x .sent) (logged n (suc now) (ticked x .instance))
-
-unfoldable later : (n : ℕ) → Instance → Instance
-later zero x = x
-later (suc n) x = later n (ticked x .instance)
-
-abbrev measured : ℕ → Sample
-measured v = record { status = 0; value = v }
-
-abbrev first : Instance
-first = holding (declared 4 8) (measured 100)
-
-abbrev second : Instance
-second = holding (ticked first .instance) (measured 94)
-
-session :
-    (logged 1 0 first ≡ (record { tick = 1; priority = 4; information = 0x191 } ∷ []))
-    × (logged 40 1 second ≡ (record { tick = 31; priority = 4; information = 0x179 } ∷ []))
-    × (input (later 40 second .kind) ≡ 0x5E)
-unfolding after cause closed deadTime decided declared due fallen fallenReport fresh holding information input kindAfter later lightCause lightFresh lightInformation lightInput lightRepeat lightSent lightTaken logged minimum moved outside repeat reportTime rules sent sentAfter started startedReport taken ticked units widened width
-session = (refl, refl, refl)

@@ -2,4 +2,3 @@ pub mod Laws
 mod Quiet
 pub mod Bounds
 mod Turn
-mod Examples
