@@ -1,29 +1,36 @@
 -- DEMAND 2: "Values, answers, triggers, events and priorities are those of IEC 62386-303 and -304 as document 01 fixes them, tick for tick. A
 -- command numbered to one instance changes no variable or timer of another."
 -- The values are the definitions that the functions' promises cite, in specs/ of sensor, command, bench and session, each with its section
--- of document 01. Here: that a session is those definitions one after another, and what each of them leaves alone.
+-- of document 01. Here: that a session is those definitions one after another, that a record which nothing refuses is taken, what each of
+-- them leaves alone, and which models are shut out.
 -- Assumes nothing.
 use Prim.Native.Nat.{ℕ, _+_, _≤_}
 use Rattle.bench.proofs.Laws.{declared-other, frame-ignored, frame-other, held-other}
-use Rattle.bench.specs.Device.{declared, held, instanceAt, running}
+use Rattle.bench.specs.Device.{declared, fresh, held, instanceAt, running}
 use Rattle.bench.specs.Frame.{counts, frameLog, frameModel, loads}
 use Rattle.bench.specs.Tick.{tickLog, tickModel}
 use Rattle.bench.specs.declared.model.Model.{Model}
 use Rattle.command.specs.Answering.{ButLatch}
 use Rattle.command.specs.Meaning.{isSetting, meaning}
+use Rattle.demands.proofs.Examples.{full, fullLog, numbers, whole}
 use Rattle.demands.proofs.Instances.{dtr0-kept, frame-latch, happen-tick, ticked-own, ticked-past}
 use Rattle.demands.proofs.Runs.{session-log, session-model}
 use Rattle.demands.proofs.Seen.{events-tick}
+use Rattle.demands.proofs.Taken.{front-known, taken-behind}
 use Rattle.demands.specs.Alone.{Present, loadsDtr0, rises}
 use Rattle.demands.specs.Happenings.{Happening, carried, happen, logAfter, modelAfter}
+use Rattle.demands.specs.Numbers.{Front, NoneGiven}
+use Rattle.demands.specs.Stands.{roomAfter}
 use Rattle.demands.specs.Window.{eventsOf}
 use Rattle.gate.specs.Pace.{noted}
+use Rattle.record.specs.Log.{AN, AllBytes, EV, bytesOf}
 use Rattle.sensor.specs.Tick.{isEvent, ticked}
 use Rattle.sensor.specs.declared.settings.Sample.{Sample}
-use Rattle.session.specs.Session.{session}
+use Rattle.session.specs.Session.{End, session, told}
 use borrow.Author.Tests.{eq-eqb}
+use lib.ListN.{length, take}
 use mathlib.Core.Bool.{false, true}
-use mathlib.Core.List.{List, []}
+use mathlib.Core.List.{List, [], _++_, _∷_}
 use mathlib.Core.Logic.{_≢_}
 use mathlib.Core.Path.{refl, _≡_}
 
@@ -32,6 +39,23 @@ use mathlib.Core.Path.{refl, _≡_}
 pub tick-for-tick : (m : Model) (xs : List ℕ) (room : ℕ)
     → (session m xs room .model ≡ modelAfter m (carried m xs room)) × (session m xs room .log ≡ logAfter m (carried m xs room))
 tick-for-tick m xs room = (session-model m xs room, session-log m xs room)
+
+-- a record that no row of the table of numbers refuses is one of the four kinds of "Session and log records": `Front` says by its bytes which,
+-- of what size, and what it tells of
+pub kind-there : (zs : List ℕ) (m : Model) → AllBytes zs → NoneGiven zs m → (size : ℕ) × (hs : List Happening) × Front zs size hs
+kind-there = front-known
+
+-- "0: all records taken": where a session stands, in r, it is taken if what it logs fits in the output that is left, and model and log go on by
+-- what it tells of. (What is behind it is read from there: `Pieces`. Of a record that a row refuses: `number-there`, demand 1)
+module _ (m : Model) (ys zs : List ℕ) (room : ℕ) where
+  abbrev r : End
+  r = session m ys room
+
+  pub taken-there : r .number ≡ 0 → AllBytes zs → NoneGiven zs (r .model)
+      → (size : ℕ) (hs : List Happening) → Front zs size hs → length (bytesOf (logAfter (r .model) hs)) ≤ roomAfter room r
+      → session m (ys ++ take size zs) room
+      ≡ record { model = modelAfter (r .model) hs; number = 0; offset = length ys + size; ticks = 0; log = r .log ++ logAfter (r .model) hs }
+  taken-there = taken-behind m ys zs room
 
 module _ (m : Model) where
   -- "A command numbered to one instance changes no variable or timer of another": whatever the frame, every instance but the one that its
@@ -75,3 +99,18 @@ module _ (m : Model) where
 
   pub tick-keeps-undeclared : (i : ℕ) → m .count ≤ i → instanceAt (tickModel m) i ≡ instanceAt m i
   tick-keeps-undeclared = ticked-past m
+
+-- ---- THE FOUR MODELS: "Demand 2 shuts out a model that refuses all, one that logs a fixed answer, one that does nothing, and one that works the
+-- first tick of a TK and only advances the number in the others"
+-- refuses all: by `taken-there` what no row refuses is taken
+-- logs a fixed answer: by `taken-there` a frame logs `frameLog` of its own three bytes and of the device as it stands
+-- does nothing: by `taken-there` the model and the log after a record are those of what it tells of
+-- works the first tick alone: by `taken-there` a TK of n ticks is n ticks, each `tickModel` and `tickLog`
+-- and the full session shuts out the first, the third and the fourth by itself: it is taken whole, it logs, and its second event is that of
+-- tick 31, the 30th tick of its TK
+
+-- document 01's full session: the numbers given back, and its log, record by record and byte for byte
+pub full-session : (told (session fresh full 28) ≡ numbers 0 32 28 0)
+    × (session fresh full 28 .log ≡ (EV 1 0 4 0x191 ∷ EV 31 0 4 0x179 ∷ AN 41 0 0x5E ∷ []))
+    × (bytesOf (session fresh full 28 .log) ≡ fullLog)
+full-session = whole

@@ -29,7 +29,7 @@ use mathlib.Core.Path.{refl, _≡_}
 use native.Mathlib.Omega.{arith}
 
 -- ---- the session and its log, byte for byte
-abbrev full : List ℕ
+abbrev pub full : List ℕ
 full =
     0x49 ∷ 0x4E ∷ 0x00 ∷ 0x04 ∷ 0x08
     ∷ 0x53 ∷ 0x41 ∷ 0x00 ∷ 0x00 ∷ 0x00 ∷ 0x00 ∷ 0x64
@@ -38,14 +38,14 @@ full =
     ∷ 0x54 ∷ 0x4B ∷ 0x00 ∷ 0x28
     ∷ 0x46 ∷ 0x52 ∷ 0x01 ∷ 0x00 ∷ 0x8C ∷ []
 
-abbrev fullLog : List ℕ
+abbrev pub fullLog : List ℕ
 fullLog =
     0x45 ∷ 0x56 ∷ 0x00 ∷ 0x00 ∷ 0x00 ∷ 0x01 ∷ 0x00 ∷ 0x04 ∷ 0x01 ∷ 0x91
     ∷ 0x45 ∷ 0x56 ∷ 0x00 ∷ 0x00 ∷ 0x00 ∷ 0x1F ∷ 0x00 ∷ 0x04 ∷ 0x01 ∷ 0x79
     ∷ 0x41 ∷ 0x4E ∷ 0x00 ∷ 0x00 ∷ 0x00 ∷ 0x29 ∷ 0x00 ∷ 0x5E ∷ []
 
 -- the numbers that the call gives back
-abbrev numbers : (number offset written ticks : ℕ) → Reading
+abbrev pub numbers : (number offset written ticks : ℕ) → Reading
 numbers number offset written ticks = record { number = number; offset = offset; written = written; ticks = ticks }
 
 -- all that it computes with
@@ -62,7 +62,7 @@ unfolding
 computing = tt
 
 -- ---- with room for its log: all taken, and the log is document 01's
-whole : (told (session fresh full 28) ≡ numbers 0 32 28 0)
+pub whole : (told (session fresh full 28) ≡ numbers 0 32 28 0)
     × (session fresh full 28 .log ≡ (EV 1 0 4 0x191 ∷ EV 31 0 4 0x179 ∷ AN 41 0 0x5E ∷ []))
     × (bytesOf (session fresh full 28 .log) ≡ fullLog)
 unfolding computing

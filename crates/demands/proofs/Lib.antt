@@ -8,6 +8,7 @@ pub mod Tells
 pub mod Numbers
 pub mod Full
 pub mod Table
+pub mod Taken
 pub mod Demand1
 pub mod Turning
 pub mod Ends
@@ -16,9 +17,9 @@ pub mod Streams
 pub mod Instances
 pub mod Seen
 pub mod Times
+pub mod Examples
 pub mod Demand2
 pub mod Paced
 pub mod First
 pub mod Demand3
-pub mod Examples
 pub mod Unique

@@ -103,7 +103,7 @@ unfolding allowed
 allowed-tells m i s d = rw (lt-ltb i 16 (d .1)) (allows-tells (instanceAt m i .kind) s)
 
 -- ---- marks
-abbrev MarkIs : Mark → List ℕ → Type 0
+abbrev pub MarkIs : Mark → List ℕ → Type 0
 MarkIs Unknown rest = (IN rest → ⊥) × (SA rest → ⊥) × (FR rest → ⊥) × (TK rest → ⊥)
 MarkIs Declaration rest = IN rest
 MarkIs Measurement rest = SA rest
@@ -111,7 +111,7 @@ MarkIs Bus rest = FR rest
 MarkIs Time rest = TK rest
 
 module _ (rest : List ℕ) (bytes : AllBytes rest) (l : 2 ≤ length rest) where
-  mark-is : MarkIs (markOf (word rest 0)) rest
+  pub mark-is : MarkIs (markOf (word rest 0)) rest
   unfolding markOf
   mark-is = go (eqb w 0x494E) refl (eqb w 0x5341) refl (eqb w 0x4652) refl (eqb w 0x544B) refl
     where
@@ -150,19 +150,19 @@ module _ (rest : List ℕ) (bytes : AllBytes rest) (l : 2 ≤ length rest) where
       second = all-below rest 1 bytes
 
 module _ (rest : List ℕ) (m : Model) where
-  in-asked : IN rest → asked rest m ≡ declareAsked rest m
+  pub in-asked : IN rest → asked rest m ≡ declareAsked rest m
   unfolding markOf askedBy
   in-asked (l, a, b) = marked rest m l ∙ rw (a, b)
 
-  sa-asked : SA rest → asked rest m ≡ sampleAsked rest m
+  pub sa-asked : SA rest → asked rest m ≡ sampleAsked rest m
   unfolding markOf askedBy
   sa-asked (l, a, b) = marked rest m l ∙ rw (a, b)
 
-  fr-asked : FR rest → asked rest m ≡ frameAsked rest
+  pub fr-asked : FR rest → asked rest m ≡ frameAsked rest
   unfolding markOf askedBy
   fr-asked (l, a, b) = marked rest m l ∙ rw (a, b)
 
-  tk-asked : TK rest → asked rest m ≡ ticksAsked rest m
+  pub tk-asked : TK rest → asked rest m ≡ ticksAsked rest m
   unfolding markOf askedBy
   tk-asked (l, a, b) = marked rest m l ∙ rw (a, b)
 

@@ -1,11 +1,12 @@
 -- Document 01, "Numbers given when a record is not taken": the table, each row as a condition on what is left of a session and on the model.
--- Order: mark present (2), mark known (1), record whole (2), then the record's own numbers in rising order.
+-- Order: mark present (2), mark known (1), record whole (2), then the record's own numbers in rising order. And "Session and log records": the
+-- four kinds of a session's records.
 -- Assumes nothing.
 use Prim.Native.Nat.{ℕ, _+_, _-_, _<_, _^_, _≤_}
 use Rattle.bench.specs.Device.{instanceAt}
 use Rattle.bench.specs.Tick.{tickLog}
 use Rattle.bench.specs.declared.model.Model.{Model}
-use Rattle.demands.specs.Happenings.{logAfter, modelAfter, tick}
+use Rattle.demands.specs.Happenings.{Happening, declare, frame, hold, logAfter, modelAfter, tick}
 use Rattle.record.specs.Log.{Logged, bytesOf}
 use Rattle.sensor.specs.declared.kind.Kind.the-variants.{Light, Occupancy}
 use Rattle.sensor.specs.declared.kind.Kind.{Kind}
@@ -17,7 +18,7 @@ use Rattle.session.specs.declared.asked.Refusal.the-variants.{BadSample, Cut, F
 use Rattle.session.specs.declared.asked.Refusal.{Refusal}
 use lib.ListN.{drop, length, replicate, take}
 use mathlib.Core.Bool.{true}
-use mathlib.Core.List.{List, _++_}
+use mathlib.Core.List.{List, [], _++_, _∷_}
 use mathlib.Core.Logic.{_≢_, _⊎_}
 use mathlib.Core.Path.{_≡_}
 
@@ -36,6 +37,17 @@ FR rest = Marked 0x46 0x52 rest
 
 abbrev pub TK : List ℕ → Type 0
 TK rest = Marked 0x54 0x4B rest
+
+-- ---- the four kinds: the record at the front of `rest` by its mark, its size, and what it tells of
+pub data Front (rest : List ℕ) : (size : ℕ) → List Happening → Type 0 where
+  -- IN: instance number, type, resolution
+  declares : IN rest → Front rest 5 (declare (byte rest 3) (byte rest 4) ∷ [])
+  -- SA: instance, status, value (3 bytes)
+  holds : SA rest → Front rest 7 (hold (byte rest 2) (sampleIn rest) ∷ [])
+  -- FR: the three frame bytes
+  frames : FR rest → Front rest 5 (frame (byte rest 2) (byte rest 3) (byte rest 4) ∷ [])
+  -- TK: tick count (2 bytes)
+  passes : TK rest → Front rest 4 (replicate (word rest 2) tick)
 
 -- ---- the conditions of the rows
 -- "IN after a record of another kind, or its number isn't the next"
@@ -80,6 +92,10 @@ Given NoTicks rest m = TK rest × (4 ≤ length rest) × (word rest 2 ≡ 0)
 Given TimeOver rest m = TK rest × (4 ≤ length rest) × (word rest 2 ≢ 0) × (4294967295 < m .tick + word rest 2)
 -- 9 is a matter of the output that is left, and not of the record alone
 Given Full rest m = ⊥
+
+-- no row of the table refuses it
+abbrev pub NoneGiven : List ℕ → Model → Type 0
+NoneGiven rest m = (why : Refusal) → Given why rest m → ⊥
 
 -- ---- 9: "the records of one tick, or one answer, don't fit in the output that is left"
 abbrev pub NoRoom : (room : ℕ) → (log more : List Logged) → Type 0

@@ -8,6 +8,7 @@ use Rattle.bench.specs.declared.model.Model.{Model}
 use Rattle.record.proofs.Log.{bytes-append}
 use Rattle.record.specs.Log.{Logged, bytesOf}
 use Rattle.sensor.specs.Kind.{modelled}
+use Rattle.session.proofs.Laws.{ticking-refused, ticking-taken}
 use Rattle.session.specs.Asked.{asked, askedBy, byte, declareAsked, frameAsked, markOf, sampleAsked, sampleIn, sizeOf, ticksAsked, word}
 use Rattle.session.specs.Session.{Step, fits, outcome, reading, refused, session, step, taken, ticking, told}
 use Rattle.session.specs.declared.asked.Asked.the-variants.{Declare, Frame, Hold, Refused, Ticks}
@@ -15,6 +16,7 @@ use Rattle.session.specs.declared.asked.Asked.{Asked}
 use Rattle.session.specs.declared.asked.Mark.the-variants.{Bus, Declaration, Measurement, Time, Unknown}
 use Rattle.session.specs.declared.asked.Mark.{Mark}
 use Rattle.session.specs.declared.asked.Refusal.the-variants.{BadSample, Cut, LateOrSkipped, NoSuchSensor, NoTicks, TimeOver, Undeclared}
+use Rattle.session.specs.declared.asked.Refusal.{Refusal}
 use borrow.Author.Tests.{leb-true, ltb-false}
 use lib.Dec.{eqb, ltb}
 use lib.ListN.{drop, length, length-append, length-drop}
@@ -45,8 +47,8 @@ ticking-within (suc n) done room m log h =
     by : (b : Bool) → fits room log (tickLog m) ≡ b
         → (fits room log (tickLog m) ≡ true → Within room (ticking n (done + 1) room (tickModel m) (log ++ tickLog m)))
         → Within room (ticking (suc n) done room m log)
-    by true e more = rw (e, ticking) (more e)
-    by false e more = rw (e, ticking) h
+    by true e more = rw (ticking-taken n done room m log e) (more e)
+    by false e more = rw (ticking-refused n done room m log e) h
 
 step-within : (a : Asked) (room : ℕ) (m : Model) (log : List Logged) → length (bytesOf log) ≤ room → Within room (step a room m log)
 unfolding step
@@ -93,12 +95,12 @@ unfolding told
 told-within m input room = session-within m input room
 
 -- ---- the offset
--- a record that is cut has no size; another is whole
-whole-size : (n k : ℕ) (y : Asked) → (k ≤ n → sizeOf y ≤ n) → sizeOf (cond (ltb n k) (Refused Cut) y) ≤ n
+-- a record that is cut has no size, whatever number it is given; another is whole
+whole-size : (n k : ℕ) (why : Refusal) (y : Asked) → (k ≤ n → sizeOf y ≤ n) → sizeOf (cond (ltb n k) (Refused why) y) ≤ n
 unfolding sizeOf
-whole-size n k y h = by (ltb n k) refl
+whole-size n k why y h = by (ltb n k) refl
   where
-    by : (b : Bool) → ltb n k ≡ b → sizeOf (cond (ltb n k) (Refused Cut) y) ≤ n
+    by : (b : Bool) → ltb n k ≡ b → sizeOf (cond (ltb n k) (Refused why) y) ≤ n
     by true e = rw e (omega arith)
     by false e = rw e (h (ltb-false _ _ e))
 
@@ -117,23 +119,23 @@ by-size : (mark : Mark) (rest : List ℕ) (m : Model) → sizeOf (askedBy mark r
 unfolding askedBy declareAsked sampleAsked frameAsked ticksAsked sizeOf
 by-size Unknown rest m = omega arith
 by-size Declaration rest m =
-    whole-size _ 5 _ (λ h.
+    whole-size _ 5 _ _ (λ h.
     two-tests (m .running || not (eqb (byte rest 2) (m .count))) (ltb (byte rest 2) 16 && modelled (byte rest 3) (byte rest 4))
     (Refused LateOrSkipped) (Declare (byte rest 3) (byte rest 4)) (Refused NoSuchSensor) _ (omega arith) h (omega arith))
 by-size Measurement rest m =
-    whole-size _ 7 _ (λ h.
+    whole-size _ 7 _ _ (λ h.
     both-tests (known m (byte rest 2)) (allowed m (byte rest 2) (sampleIn rest))
     (Hold (byte rest 2) (sampleIn rest)) (Refused BadSample) (Refused Undeclared) _ h (omega arith) (omega arith))
-by-size Bus rest m = whole-size _ 5 _ (λ h. h)
+by-size Bus rest m = whole-size _ 5 _ _ (λ h. h)
 by-size Time rest m =
-    whole-size _ 4 _ (λ h.
+    whole-size _ 4 _ _ (λ h.
     two-tests (eqb (word rest 2) 0) (ltb (4294967295 - m .tick) (word rest 2))
     (Refused NoTicks) (Refused TimeOver) (Ticks (word rest 2)) _ (omega arith) (omega arith) h)
 
 -- a record that is taken is whole
 pub asked-size : (rest : List ℕ) (m : Model) → sizeOf (asked rest m) ≤ length rest
 unfolding asked
-asked-size rest m = whole-size (length rest) 2 (askedBy (markOf (word rest 0)) rest m) (λ h. by-size (markOf (word rest 0)) rest m)
+asked-size rest m = whole-size (length rest) 2 Cut (askedBy (markOf (word rest 0)) rest m) (λ h. by-size (markOf (word rest 0)) rest m)
 
 reading-offset : (most : ℕ) (rest : List ℕ) (room at : ℕ) (m : Model) (log : List Logged) → reading most rest room at m log .offset ≤ at + length rest
 unfolding reading
