@@ -24,7 +24,6 @@ use lib.ListN.{length}
 use mathlib.Core.Bool.{true}
 use mathlib.Core.List.{List, List·Memᴰ}
 use mathlib.Core.Path.{subst, _≡_}
-use native.Mathlib.Omega.{arith}
 
 -- From any model, over any calls: a tick of them logged an event of instance i, and what they carried out after it is the window. That the
 -- instance is enabled then, and its timers started, follows. `Paced` says the two counts and the gaps, of the EV records of i that stand
@@ -46,15 +45,15 @@ module _ {m₀ : Model} {calls : List Call} {i : ℕ} (w : Window m₀ calls i) 
 
   -- "the next n ticks carried out hold at least n / R"
   pub at-least : n (w .at) / R x ≤ length (events (w .at) i)
-  at-least = omega (arith, demand-3 .at-least)
+  at-least = demand-3 .at-least
 
   -- "and at most n / max(D, 1) of its events, both rounded down"
   pub at-most : length (events (w .at) i) ≤ n (w .at) / max (D x) 1
-  at-most = omega (arith, demand-3 .at-most)
+  at-most = demand-3 .at-most
 
   -- "and no n of such ticks leaves a gap above R": any R ticks in a row, those above a up to a + R, hold one of its events
   pub gapless : (a : ℕ) → last (w .at) ≤ a → a + R x ≤ last (w .at) + n (w .at) → (e : ℕ) × List·Memᴰ e (events (w .at) i) × (a < e) × (e ≤ a + R x)
-  gapless a low high = let (e, found, above, within) = demand-3 .gapless a low high in (e, found, omega arith, omega arith)
+  gapless = demand-3 .gapless
 
   -- "Over 72,000 ticks (an hour) demand 3 gives light defaults 120 to 2,400"
   pub hour-of-defaults : {l : lights.Light} → x .kind ≡ Light l → x .settings .deadtime ≡ 30 → x .settings .report ≡ 30 → n (w .at) ≡ 72000

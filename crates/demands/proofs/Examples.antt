@@ -1,31 +1,39 @@
--- Document 01, "A full session, bytes in hex", read from the fresh model: with room for its log, with a byte too few, and in pieces.
+-- Document 01, "A full session, bytes in hex", read from the fresh model: with room for its log, with a byte too few, and in pieces; and the
+-- window of demand 3 in it.
 -- Assumes nothing.
-use Prim.Native.Nat.{ℕ}
+use Prim.Native.Nat.{ℕ, max, suc, zero, _/_}
 use Rattle.bench.specs.Device.{allowed, declared, fresh, held, instanceAt, known}
 use Rattle.bench.specs.Frame.{answerLog, counts, frameLog, frameModel, loads, numberedLog, numberedModel}
 use Rattle.bench.specs.Tick.{sentLog, sweep, sweepLog, tickLog, tickModel}
+use Rattle.bench.specs.declared.model.Model.{Model}
 use Rattle.command.specs.Answering as answering
 use Rattle.command.specs.Meaning.{lightMeaning, lightOpcode, meaning, meantIn}
-use Rattle.demands.specs.Happenings.{bytesWritten, carried, carriedIn, carriedOut, declare, frame, hold, logAfter, modelAfter, tick}
+use Rattle.demands.proofs.Instances.{happen-present, ticked-own}
+use Rattle.demands.proofs.Times.{window-events}
+use Rattle.demands.specs.Alone.{Present}
+use Rattle.demands.specs.Happenings.{Call, Happening, bytesWritten, carried, carriedIn, carriedOut, declare, frame, happen, hold, logAfter, modelAfter, tick, ticksIn}
 use Rattle.demands.specs.Streams.{Held, over, overBy, start, streamed, turnBy, turned}
-use Rattle.demands.specs.Window.{Window, eventsOf}
+use Rattle.demands.specs.Window.{Cut, D, R, Undisturbed, Window, deviceAfter, events, eventsOf, n}
 use Rattle.gate.specs.Gate.{after, decided}
 use Rattle.gate.specs.Timers.{deadTime, due, fallen, fallenReport, reportTime, started, startedReport}
 use Rattle.record.specs.Log.{AN, EV, bytesOf, encoded}
+use Rattle.sensor.proofs.Laws.{held-kept}
 use Rattle.sensor.specs.Fresh as sensors
 use Rattle.sensor.specs.Kind.{allows, cause, information, input, modelled, repeat, resolution, rules, sent, taken, units}
 use Rattle.sensor.specs.Light.{lightAllows, lightCause, lightInformation, lightInput, lightRepeat, lightSent, lightTaken, minimum, moved, outside, width}
-use Rattle.sensor.specs.Tick.{closed, holding, kindAfter, sentAfter, ticked}
+use Rattle.sensor.specs.Tick.{closed, holding, kindAfter, sentAfter, ticked, valid}
+use Rattle.sensor.specs.declared.instance.Instance.{Instance}
 use Rattle.session.specs.Asked as records
 use Rattle.session.specs.Refusals.{numberOf}
 use Rattle.session.specs.Session.{fits, reading, session, step, ticking, told}
 use Rattle.session.specs.declared.reading.Reading.{Reading}
 use Rattle.stream.specs.Stream.{nextAfter, remaining, unread}
 use Rattle.widen.specs.Width.{widened}
-use lib.ListN.{drop, replicate, take}
+use lib.Dec.{eqb}
+use lib.ListN.{drop, length, replicate, take}
 use mathlib.Core.Bool.{true}
-use mathlib.Core.List.{List, [], _++_, _∷_}
-use mathlib.Core.Path.{refl, _≡_}
+use mathlib.Core.List.{List, [], _∷_}
+use mathlib.Core.Path.{ap, refl, _∙_, _≡_}
 use native.Mathlib.Omega.{arith}
 
 -- ---- the session and its log, byte for byte
@@ -58,7 +66,7 @@ unfolding
     sensors.declared sensors.fresh sensors.lightFresh allows cause information input modelled repeat resolution rules sent taken units
     lightAllows lightCause lightInformation lightInput lightRepeat lightSent lightTaken minimum moved outside width closed holding kindAfter sentAfter ticked widened
     streamed turnBy turned overBy nextAfter remaining unread
-    bytesWritten carried carriedIn carriedOut logAfter modelAfter eventsOf
+    bytesWritten carried carriedIn carriedOut logAfter modelAfter ticksIn eventsOf
 computing = tt
 
 -- ---- with room for its log: all taken, and the log is document 01's
@@ -94,19 +102,43 @@ in-pieces : (run 1 20 .number ≡ 2) × (run 1 20 .unread ≡ (0x54 ∷ []))
 unfolding computing
 in-pieces = (refl, refl, refl, refl, refl, refl, refl, refl, refl, refl, refl, refl, refl)
 
--- ---- demand 3 has something to say of it: the first tick logged an event, and the window after it
-window : Window fresh (record { input = full; room = 28 } ∷ []) 0
+-- ---- demand 3 has something to say of it: the window of the 40 ticks after the first event
+-- ticks leave a held sample as it is
+still-valid : (k i : ℕ) (m : Model) → Present i m → valid (instanceAt m i) ≡ true → Undisturbed i m (replicate k tick)
+still-valid zero i m p v = tt
+still-valid (suc k) i m p v =
+    (v, still-valid k i (tickModel m) (happen-present m tick p) (ap valid (ticked-own p) ∙ ap (λ s. eqb (s .status) 0) (held-kept (instanceAt m i)) ∙ v))
+
+abbrev calls : List Call
+calls = record { input = full; room = 28 } ∷ []
+
+abbrev measured : ℕ → Happening
+measured v = hold 0 (record { status = 0; value = v })
+
+first-event : Cut fresh calls tick
 unfolding computing
+first-event = record { before = declare 4 8 ∷ measured 100 ∷ []; during = measured 94 ∷ replicate 40 tick; later = frame 0x01 0x00 0x8C ∷ []; cut = refl }
+
+window : Window fresh calls 0
+unfolding first-event
 window =
     record {
-      at =
-          record {
-            before = declare 4 8 ∷ hold 0 (record { status = 0; value = 100 }) ∷ [];
-            during = hold 0 (record { status = 0; value = 94 }) ∷ tick ∷ tick ∷ [];
-            later = replicate 38 tick ++ (frame 0x01 0x00 0x8C ∷ []);
-            cut = refl;
-          };
+      at = first-event;
       event = omega arith;
       reports = record { set = omega arith; lets = refl };
-      undisturbed = (tt, (refl, (refl, tt)));
+      undisturbed = (tt, still-valid 40 0 (happen (deviceAfter first-event) (measured 94)) (record { counted = omega arith; listed = omega arith }) refl);
     }
+
+-- instance 0 just after its first event
+abbrev x : Instance
+x = instanceAt (deviceAfter (window .at)) 0
+
+-- its only event of the window is that of tick 31
+event-31 : events (window .at) 0 ≡ (31 ∷ [])
+unfolding window
+event-31 = window-events (window .at) 0 ∙ refl
+
+-- so the upper count, n / max(D, 1), is met
+window-met : (n (window .at) ≡ 40) × (D x ≡ 30) × (R x ≡ 600) × (length (events (window .at) 0) ≡ n (window .at) / max (D x) 1)
+unfolding window
+window-met = (refl, refl, refl, rw event-31)

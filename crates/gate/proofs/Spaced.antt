@@ -33,10 +33,11 @@ no-gap lo hi last (e ∷ es) now a s h w = go (decLe e a) (λ p. no-gap lo hi e 
 
 pub paced : (D R last n : ℕ) (es : List ℕ) → 0 < R → Spaced (max D 1) R last es (last + n) → Paced D R last n es
 paced D R last n es h s =
+    let low : n / R < suc (length es) = div-lt-iff-lt-mul h .1 (omega (arith, least (max D 1) R last es (last + n) s)) in
+    let some : 0 < max D 1 = omega arith in
+    let high : length es ≤ n / max D 1 = le-div-iff-mul-le some .1 (omega (arith, most (max D 1) R last es (last + n) s)) in
     record {
-      at-least =
-          let k : n / R < suc (length es) = div-lt-iff-lt-mul h .1 (omega (arith, least (max D 1) R last es (last + n) s)) in
-          omega arith;
-      at-most = let p : 0 < max D 1 = omega arith in le-div-iff-mul-le p .1 (omega (arith, most (max D 1) R last es (last + n) s));
-      gapless = λ a l u. no-gap (max D 1) R last es (last + n) a s l u;
+      at-least = omega arith;
+      at-most = omega arith;
+      gapless = λ a l u. let (e, found, above, within) = no-gap (max D 1) R last es (last + n) a s l u in (e, found, omega arith, omega arith);
     }
