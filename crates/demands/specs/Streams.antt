@@ -5,11 +5,11 @@ use Prim.Native.Nat.{ℕ, _%_, _+_, _^_}
 use Rattle.bench.specs.declared.model.Model.{Model}
 use Rattle.record.specs.Log.{Logged, bytesOf}
 use Rattle.session.specs.Session.{End, session}
-use Rattle.stream.specs.Stream.{nextAfter, unread}
+use Rattle.stream.specs.Stream.{goesBy, nextAfter, unread}
 use Rattle.stream.specs.declared.Next.the-variants.{EmptiedOutput, MoreInput, Over}
 use Rattle.stream.specs.declared.Next.{Next}
 use Rattle.stream.specs.declared.Progress.{Progress}
-use mathlib.Core.Bool.{Bool, false, true}
+use mathlib.Core.Bool.{Bool, false, not, true}
 use mathlib.Core.List.{List, [], _++_, _∷_}
 use mathlib.Core.Path.{_≡_}
 
@@ -57,11 +57,13 @@ turnBy Over coming room h = h
 abbrev pub nextTurn : (room : ℕ) → Held → Held
 nextTurn room h = turnBy (nextAfter (h .number)) (h .coming) room h
 
+-- there is no other turn, where no piece is to come but these
+abbrev pub none : (coming : List (List ℕ)) → Bool
+none [] = true
+none (piece ∷ pieces) = false
+
 unfoldable pub overBy : Next → (coming : List (List ℕ)) → Bool
-overBy MoreInput [] = true
-overBy MoreInput (piece ∷ pieces) = false
-overBy EmptiedOutput coming = false
-overBy Over coming = true
+overBy next coming = not (goesBy next (none coming))
 
 abbrev pub over : Held → Bool
 over h = overBy (nextAfter (h .number)) (h .coming)
