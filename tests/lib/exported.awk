@@ -29,14 +29,14 @@ FNR == 1 {
     head = 1
 }
 
-# A function's head ends with the `{` of its body; each clause begins a line.
+# A function's head ends with its body, which may be empty; each clause begins a line.
 head {
     clause = $1 == "ensures" || $1 == "requires"
     ensures[f] += $1 == "ensures"
     requires[f] += $1 == "requires"
     if (!clause)
         lent[f] += gsub(/&('[a-z]+ )?mut /, "")
-    if (!clause && /\{$/)
+    if (!clause && /[{}]$/)
         head = 0
 }
 

@@ -23,11 +23,11 @@ use Rattle.session.specs.Refusals.{numberOf}
 use Rattle.session.specs.Session.{Step, refused, session, step, taken}
 use Rattle.session.specs.declared.asked.Asked.the-variants.{Frame, Refused, Ticks}
 use Rattle.session.specs.declared.asked.Refusal.{Refusal}
-use Rattle.stream.proofs.Moves.{remaining-long}
+use Rattle.stream.proofs.Moves.{unread-long}
 use Rattle.stream.specs.Stream.{nextAfter, remaining, ticks, unread}
 use Rattle.stream.specs.declared.Next.the-variants.{EmptiedOutput, MoreInput, Over}
 use Rattle.stream.specs.declared.Next.{Next}
-use lib.ListN.{drop, length, length-drop, replicate}
+use lib.ListN.{length, replicate}
 use mathlib.Core.Bool.{Bool, cond, false, true}
 use mathlib.Core.List.{List, [], _∷_}
 use mathlib.Core.Logic.{inl, inr, _≢_, _⊎_}
@@ -80,10 +80,6 @@ module _ (m : Model) (xs : List ℕ) (room : ℕ) (few : length (m .instances) �
 abbrev Less : (xs ys : List ℕ) → Type 0
 Less xs ys = (length xs < length ys) ⊎ ((length xs ≤ length ys) × (word xs 2 < word ys 2))
 
-pub unread-long : (m : Model) (xs : List ℕ) (room : ℕ) → length (unread (session m xs room) xs) ≡ length xs - session m xs room .offset
-unfolding unread
-unread-long m xs room = remaining-long (session m xs room .ticks) (drop (session m xs room .offset) xs) ∙ length-drop (session m xs room .offset) xs
-
 module _ (m : Model) (xs : List ℕ) (room : ℕ) (few : length (m .instances) ≤ 16) (enough : 160 ≤ room) (nine : session m xs room .number ≡ 9) where
   some : 0 < length xs
   some = omega (arith, bounded m xs room .before (omega arith))
@@ -103,12 +99,12 @@ module _ (m : Model) (xs : List ℕ) (room : ℕ) (few : length (m .instances) �
       go : (o : Step) → step (asked xs m) room m [] ≡ o → Less (unread (session m xs room) xs) xs
       go (taken m′ log) e =
           let at = ap (λ r. r .offset) (session-taken m xs room some e) in
-          inl (omega (arith, unread-long m xs room, at, taken-size (asked xs m) room m [] e, bounded m xs room .before (omega arith)))
+          inl (omega (arith, unread-long (session m xs room) xs, at, taken-size (asked xs m) room m [] e, bounded m xs room .before (omega arith)))
       go (refused why t m′ log) e =
           let r = session-refused m xs room some e in
           let number = ap (λ r. r .number) r in
           let there : unread (session m xs room) xs ≡ remaining t xs = ap (λ r. unread r xs) r in
-          inr (omega (arith, unread-long m xs room), rw there (fewer-ticks why t m′ log e (ticks-some m xs room few enough why t m′ log e (omega arith))))
+          inr (omega (arith, unread-long (session m xs room) xs), rw there (fewer-ticks why t m′ log e (ticks-some m xs room few enough why t m′ log e (omega arith))))
 
 -- ---- so after some number of turns it is over
 module _ (room : ℕ) (enough : 160 ≤ room) where

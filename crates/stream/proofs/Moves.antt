@@ -4,7 +4,8 @@ use Prim.Native.Nat.{ℕ, suc, _+_, _-_, _<_, _≤_}
 use Rattle.record.proofs.Laws.{put-front, put-nothing}
 use Rattle.record.specs.Put.{put}
 use Rattle.session.specs.Asked.{word}
-use Rattle.stream.specs.Stream.{remaining, ticks}
+use Rattle.session.specs.Session.{End}
+use Rattle.stream.specs.Stream.{remaining, ticks, unread}
 use borrow.Author.Tests.{le-ltb, lt-ltb, ne-eqb}
 use lib.Dec.{eqb, ltb}
 use lib.ListN.{drop, getD, length, length-drop, set, take}
@@ -80,6 +81,10 @@ remaining-long done rest = by (eqb done 0) (decLe 4 (length rest))
     by true h = refl
     by false (yes h) = rw (le-ltb (length rest) 4 h, length-drop) (omega arith)
     by false (no h) = rw (lt-ltb (length rest) 4 (omega arith))
+
+pub unread-long : (e : End) (input : List ℕ) → length (unread e input) ≡ length input - e .offset
+unfolding unread
+unread-long e input = remaining-long (e .ticks) (drop (e .offset) input) ∙ length-drop (e .offset) input
 
 -- a TK of the ticks that remain, stored byte by byte
 pub shortened : (rest : List ℕ) {done w n : ℕ} → (done ≡ 0 → ⊥) → 4 ≤ length rest → w ≡ word rest 2 → n ≡ w - done → sets rest 0 (ticks n) ≡ remaining done rest

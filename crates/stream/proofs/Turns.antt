@@ -7,11 +7,11 @@ use Rattle.record.specs.Put.{put}
 use Rattle.session.proofs.Bounds.{session-offset, session-within}
 use Rattle.session.specs.Session.{outcome, session}
 use Rattle.session.specs.declared.reading.Outcome.{Outcome}
-use Rattle.stream.proofs.Moves.{remaining-long}
+use Rattle.stream.proofs.Moves.{unread-long}
 use Rattle.stream.specs.Stream.{counted, ended, held, inputAfter, outputAfter, progressed, remaining, stepped, unread}
 use Rattle.stream.specs.declared.Progress.{Progress}
 use Rattle.stream.specs.declared.Stepped.{Stepped}
-use lib.ListN.{drop, length, length-drop, length-take, take}
+use lib.ListN.{drop, length, length-take, take}
 use lib.Seq.{slice, take-all, take-append-seam, take-take}
 use mathlib.Core.List.{List}
 use mathlib.Core.Path.{ap, sym, _≡_, _∙_}
@@ -87,19 +87,16 @@ module _ (p : Progress) (came : ℕ) (input output : List ℕ) where
 
   -- what is unread lies at the front of the input buffer
   pub step-unread : take (stepped p came input output .progress .unread) (inputAfter p came input output) ≡ unread (ended p came input output) (held p came input)
-  unfolding stepped progressed inputAfter unread
+  unfolding stepped progressed inputAfter
   step-unread =
-      let e = ended p came input output in
-      let rest = drop (e .offset) (held p came input) in
-      let long : length (held p came input) - e .offset ≡ length (remaining (e .ticks) rest) = sym (remaining-long (e .ticks) rest ∙ length-drop (e .offset) (held p came input)) in
-      ap (λ (k : ℕ). take k (put 0 (remaining (e .ticks) rest) input)) long ∙ front (remaining (e .ticks) rest) input
+      let left = unread (ended p came input output) (held p came input) in
+      ap (λ (k : ℕ). take k (put 0 left input)) (sym (unread-long (ended p came input output) (held p came input))) ∙ front left input
 
   pub step-left : stepped p came input output .progress .unread ≤ length (inputAfter p came input output)
-  unfolding stepped progressed unread
+  unfolding stepped progressed
   step-left =
-      let e = ended p came input output in
-      let rest = drop (e .offset) (held p came input) in
-      omega (arith, ap length step-unread, length-take (length (held p came input) - e .offset) (inputAfter p came input output), remaining-long (e .ticks) rest, length-drop (e .offset) (held p came input))
+      let n = stepped p came input output .progress .unread in
+      omega (arith, ap length step-unread, length-take n (inputAfter p came input output), unread-long (ended p came input output) (held p came input))
 
 -- what is unread lies in the input buffer, and the log in the output
 pub step-within : (p : Progress) (came : ℕ) (input output : List ℕ) {s : Stepped} → s ≡ stepped p came input output
