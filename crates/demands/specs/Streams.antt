@@ -57,11 +57,12 @@ turnBy Over coming room h = h
 abbrev pub nextTurn : (room : ℕ) → Held → Held
 nextTurn room h = turnBy (nextAfter (h .number)) (h .coming) room h
 
--- there is no other turn, where no piece is to come but these
+-- whether no piece is to come
 abbrev pub none : (coming : List (List ℕ)) → Bool
 none [] = true
 none (piece ∷ pieces) = false
 
+-- there is no other turn
 unfoldable pub overBy : Next → (coming : List (List ℕ)) → Bool
 overBy next coming = not (goesBy next (none coming))
 
