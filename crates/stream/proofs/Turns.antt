@@ -1,6 +1,7 @@
 -- What a step comes to, from what each of its calls comes to; and its bounds.
 -- Assumes nothing.
 use Prim.Native.Nat.{ℕ, _%_, _+_, _-_, _^_, _≤_, min}
+use Rattle.bench.specs.declared.model.Model.{Model}
 use Rattle.record.proofs.Laws.{put-front}
 use Rattle.record.specs.Log.{bytesOf}
 use Rattle.record.specs.Put.{put}
@@ -19,6 +20,11 @@ use native.Mathlib.Decide.{decLe}
 use native.Mathlib.Nat.{sub-zero}
 use native.Mathlib.Omega.{arith}
 
+-- the offset lies in what was read
+pub within : (m : Model) (end : ℕ) (input : List ℕ) (room : ℕ) {o : Outcome} → o ≡ outcome (session m (take (end - 0) input) room) → o .offset ≤ end
+unfolding outcome
+within m end input room e = omega (arith, ap (λ (x : Outcome). x .offset) e, session-offset m (take (end - 0) input) room, length-take (end - 0) input)
+
 module _ (p : Progress) (came : ℕ) (input output : List ℕ) {end : ℕ} {o : Outcome} (is-end : end ≡ min (p .unread + came) (length input))
     (is-read : o ≡ outcome (session (p .model) (take (end - 0) input) (length output))) where
   is-held : take end input ≡ held p came input
@@ -35,14 +41,6 @@ module _ (p : Progress) (came : ℕ) (input output : List ℕ) {end : ℕ} {o : 
   unfolding ended
   is-ended = is-read ∙ ap (λ (l : List ℕ). outcome (session (p .model) l (length output))) is-lent
 
-  ended-within : ended p came input output .offset ≤ end
-  unfolding ended
-  ended-within = omega (arith, session-offset (p .model) (held p came input) (length output), length-take (p .unread + came) input)
-
-  pub within : o .offset ≤ end
-  unfolding outcome
-  within = rw is-ended ended-within
-
   -- the three parts of a step's promise
   pub step-told : {n left records passed : ℕ} → n ≡ counted (take (o .offset - 0) input) → left ≡ end - o .offset
       → records ≡ (p .records + n) % 2 ^ 64 → passed ≡ (p .passed + o .offset) % 2 ^ 64
@@ -51,7 +49,7 @@ module _ (p : Progress) (came : ℕ) (input output : List ℕ) {end : ℕ} {o : 
   step-told {n} {left} {records} {passed} is-n is-left is-records is-passed =
       let e = ended p came input output in
       let at : o .offset ≡ e .offset = ap (λ (x : Outcome). x .offset) is-ended in
-      let inside : e .offset ≤ p .unread + came = omega (arith, ended-within) in
+      let inside : e .offset ≤ p .unread + came = omega (arith, within (p .model) end input (length output) is-read) in
       let taken : n ≡ counted (take (e .offset) (held p came input)) =
       is-n ∙ ap (λ (k : ℕ). counted (take k input)) (sub-zero (o .offset) ∙ at) ∙ ap counted (sym (take-take (e .offset) (p .unread + came) input inside)) in
       let rest : left ≡ length (held p came input) - e .offset = omega (arith, length-take (p .unread + came) input) in

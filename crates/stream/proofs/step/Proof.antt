@@ -5,6 +5,7 @@ use Rattle.stream.proofs.Turns.{step-kept, step-logged, step-told, with
 use Rattle.stream.proofs.step.Statement.{statement}
 use Rattle.stream.proofs.step.Tie as tie
 use borrow.Author.Needs.{needs}
+use lib.ListN.{length}
 use mathlib.Core.Path.{refl}
 
 held-requires : tie.Need-held-requires
@@ -33,7 +34,7 @@ part-count-end c =
     let r = c .before .before .before in
     let l = r .before .before .before .before in
     let a = l .before .before .before .args in
-    let inside : r .read .result .offset ≤ l .held .result = within (a .p) (a .came) (a .input .now) (a .output .now) (l .held .ensures) (r .read .ensures .0) in
+    let inside : r .read .result .offset ≤ l .held .result = within (a .p .model) (l .held .result) (a .input .now) (length (a .output .now)) (r .read .ensures .0) in
     search needs
 
 count-requires : tie.Need-count-requires
@@ -44,7 +45,7 @@ keep-requires c κs =
     let r = c .before .before .before .before .before .before in
     let l = r .before .before .before .before in
     let a = l .before .before .before .args in
-    let inside : r .read .result .offset ≤ l .held .result = within (a .p) (a .came) (a .input .now) (a .output .now) (l .held .ensures) (r .read .ensures .0) in
+    let inside : r .read .result .offset ≤ l .held .result = within (a .p .model) (l .held .result) (a .input .now) (length (a .output .now)) (r .read .ensures .0) in
     search needs
 
 sub-left : tie.Need-sub-left
@@ -52,7 +53,7 @@ sub-left c =
     let r = c .before .before .before .before .before .before .before .before .before in
     let l = r .before .before .before .before in
     let a = l .before .before .before .args in
-    within (a .p) (a .came) (a .input .now) (a .output .now) (l .held .ensures) (r .read .ensures .0)
+    within (a .p .model) (l .held .result) (a .input .now) (length (a .output .now)) (r .read .ensures .0)
 
 wrapping-add-u64-requires : tie.Need-wrapping-add-u64-requires
 wrapping-add-u64-requires c κs = search needs
