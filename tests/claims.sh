@@ -1,7 +1,8 @@
 #!/bin/sh
 # Holds what the documents say of the repository as a whole, which no check of one crate shows: which crates, edits that must fail and
 # tests there are (tests/claims.txt); what is assumed (docs/TRUST.md, 3); that each exported function has an `ensures`, no `requires`, and
-# its entry in Unique. It reads the sources and what the check of each crate left in target/, and says all that is wrong.
+# its entry in its crate's Unique, and that crate demands gathers these. It reads the sources and what the check of each crate left in
+# target/, and says all that is wrong.
 set -eu
 cd "$(dirname "$0")/.."
 LC_ALL=C
@@ -84,7 +85,8 @@ awk 'NR == FNR { library[$1] = 1; next }
                 print "crates.txt: the library " name " names " $i ", and may assume what that does"
     }' "$room/libraries" crates.txt >>"$room/wrong"
 
-# ---- the exported functions, `CRATE PATH`, as the checker lists them: their promises in the sources, and their entries in Unique
+# ---- the exported functions, `CRATE PATH`, as the checker lists them: their promises in the sources, their entries in Unique, and the page
+# that gathers each crate's
 rt fmt --check >"$room/read" 2>&1 || wrong "a source is not in the layout in which it is read here: $(head -n 1 "$room/read")"
 while read -r name; do
     for file in "target/rlib/$name.rlib/toolchain/checked"/*.Symbol.oantt; do
@@ -97,7 +99,12 @@ while read -r name; do find "crates/$name/src" -name '*.rt'; done <"$room/librar
 awk -f tests/lib/exported.awk "$room/exported" $(cat "$room/files") >"$room/read"
 sed -n 's/^wrong //p' "$room/read" >>"$room/wrong"
 sed '/^wrong /d' "$room/read" >"$room/exported"
-awk -f tests/lib/unique.awk "$room/exported" crates/demands/proofs/Unique.antt | sort >>"$room/wrong"
+awk -f tests/lib/unique.awk "$room/exported" crates/*/proofs/Unique.antt >"$room/read"
+sort "$room/read" >>"$room/wrong"
+page=crates/demands/proofs/Unique.antt
+sed -n 's/^pub use Rattle[^A-Za-z]*\([a-z_0-9]*\)[.]proofs[.]Unique as .*/\1/p' "$page" | sort >"$room/claimed"
+cut -d ' ' -f 1 "$room/exported" | sort -u >"$room/found"
+same "gathered by $page" 'with functions that it exports'
 
 if [ -s "$room/wrong" ]; then
     sed 's/^/claims: /' "$room/wrong" >&2

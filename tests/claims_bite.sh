@@ -14,7 +14,7 @@ for log in target/log/*.say; do
     cp "$log" "$copy/target/log/${name%.say}.out"
 done
 ln -s "$PWD/target/rlib" "$copy/target/rlib"
-unique=crates/demands/proofs/Unique.antt
+page=crates/demands/proofs/Unique.antt
 ways=0
 
 # told TEXT: the copy's claims.sh fails, and TEXT is in what it says
@@ -82,23 +82,29 @@ edited target/log/widen.out '/^logic=proved/d' "target/log/widen.out: no line 'l
 gone target/log/widen.out "target/log/widen.out: no line 'logic=proved ..'"
 
 # ---- promises
-widen=crates/widen/src/lib.rt gate=crates/gate/src/lib.rt
+widen=crates/widen/src/lib.rt timers=crates/timers/src/lib.rt
 edited $widen '/^pub fn mask/,/^{/ { /ensures/d; }' 'widen::mask: exported, and has no `ensures`'
 edited $widen '/^pub fn mask/,/^{/ s/^    ensures/    requires { ⌜ resolution < 9 ⌝ }\
 &/' 'widen::mask: exported, and has a `requires`'
-edited $gate '/pub fn dead_time/,/^    {/ s/^        ensures/        requires small { ⌜ self .report < 9 ⌝ }\
-&/' 'gate::Rules::dead_time: exported, and has a `requires`'
-edited $gate '/pub fn dead_time/,/^    {/ { /ensures/d; }' 'gate::Rules::dead_time: exported, and has no `ensures`'
+edited $timers '/pub fn dead_time/,/^    {/ s/^        ensures/        requires small { ⌜ self .report < 9 ⌝ }\
+&/' 'timers::Rules::dead_time: exported, and has a `requires`'
+edited $timers '/pub fn dead_time/,/^    {/ { /ensures/d; }' 'timers::Rules::dead_time: exported, and has no `ensures`'
 edited $widen 's/^pub fn mask/fn mask/' 'widen::mask: exported, and found in 0 places of the sources'
 edited $widen 's/^    ensures/  ensures/' 'a source is not in the layout'
 
 # ---- Unique
-edited $unique '/^pub widen-mask-unique/d' 'Unique: no entry for widen::mask'
-edited $unique '/^pub widen-mask-unique/ s/widen-mask[.]Post/widen-input-bytes.Post/' 'Unique: no entry for widen::mask'
+unique=crates/widen/proofs/Unique.antt record=crates/record/proofs/Unique.antt command=crates/command/proofs/Unique.antt
+edited $unique '/^pub mask-unique/d' 'Unique: no entry for widen::mask'
+edited $unique '/^pub mask-unique/ s/mask[.]Post/input-bytes.Post/' 'Unique: no entry for widen::mask'
 edited $unique '/^use .*mask[.]Reads/ s/proofs[.]mask/proofs.input_bytes/' 'Unique: 2 entries for widen::input_bytes'
-edited $unique '/^use .*mask[.]Reads/ s/proofs[.]mask/proofs.capped/' 'widen-mask-unique is of no exported function: widen::capped'
-edited $unique '/^pub record-write-event-unique/ s/ : UniqueLent\(.*[.]Post\).*/ : Unique\1/' \
-    'record-write-event-unique does not speak of all that is lent'
-edited $unique '/^pub command-apply-unique/d' 'Unique: no entry for command::apply'
-edited $unique '/^pub command-apply-unique/ s/command-apply[.]ended/another.ended/' 'command-apply-unique is of no exported function'
+edited $unique '/^use .*mask[.]Reads/ s/proofs[.]mask/proofs.capped/' 'Unique of widen: mask-unique is of no exported function: widen::capped'
+edited $unique '/^use .*specs[.]Unique/ s/promise/widen/' "Unique of widen: mask-unique says a Unique that is not crate promise's"
+edited $record '/^pub write-event-unique/ s/ : UniqueLent\(.*[.]Post\).*/ : Unique\1/' \
+    'Unique of record: write-event-unique does not speak of all that is lent'
+edited $command '/^pub apply-unique/d' 'Unique: no entry for command::apply'
+edited $command '/^pub apply-unique/ s/apply[.]ended/another.ended/' 'Unique of command: apply-unique is of no exported function'
+edited $record '/^use .*word[.]Reads/ s/Rattle.*word[.]/Rattle.widen.proofs.mask./' "Unique of record: word-unique is of another crate's function: widen::mask"
+gone $unique 'Unique: no entry for widen::mask'
+edited $page '/^pub use .*widen/d' "widen: with functions that it exports, and not gathered by $page"
+edited $page '/^pub use .*widen/ s/widen/promise/g' "promise: gathered by $page, and not with functions that it exports"
 echo "claims.sh fails where it must, in $ways ways"

@@ -1,5 +1,4 @@
 mod Block
-mod Cases
 mod Rest
-pub mod Opcodes
 pub mod Laws
+pub mod Unique

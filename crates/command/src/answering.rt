@@ -1,8 +1,9 @@
 // The queries, and the latch of inputValue.
-use crate::meaning::Query;
+use opcode::Query;
+use opcode::Variable;
 use sensor::Instance;
 use sensor::Latch;
-ghost use Rattle.command.specs.Answering.{asked, byteAt, latched, onlyIf, plain, status, told};
+ghost use Rattle.command.specs.Answering.{answered, asked, byteAt, latched, onlyIf, status, valueOf};
 ghost use mathlib.Core.Path.{_≡_};
 
 pub enum Answer {
@@ -29,23 +30,24 @@ pub fn asked(x: Instance, query: Query) -> Acted
     let kind = x.kind;
     let latch = x.latch;
     match query {
-        Query::QueryValue => told(
-            x,
-            latched(kind.input(), widen::input_bytes(kind.resolution())),
-        ),
-        Query::QueryNext => told(x, latched(latch.bytes, latch.left)),
-        _ => {
-            let answer = plain(x, query);
+        Query::QueryVariable(variable) => {
+            let answer = value_of(x, variable);
             Acted {
                 instance: x,
                 answer,
             }
         }
+        Query::QueryValue => answered(
+            x,
+            latched(kind.input(), widen::input_bytes(kind.resolution())),
+        ),
+        Query::QueryNext => answered(x, latched(latch.bytes, latch.left)),
     }
 }
 
-fn told(x: Instance, l: Piece) -> Acted
-    ensures { λ r. ⌜ r ≡ told x l ⌝ }
+// With a byte of inputValue answered.
+fn answered(x: Instance, l: Piece) -> Acted
+    ensures { λ r. ⌜ r ≡ answered x l ⌝ }
 {
     let latch = l.latch;
     let answer = l.answer;
@@ -71,25 +73,23 @@ fn latched(bytes: u32, left: u8) -> Piece
     }
 }
 
-// Every query but those of inputValue.
-fn plain(x: Instance, query: Query) -> Answer
-    ensures { λ r. ⌜ r ≡ plain x query ⌝ }
+fn value_of(x: Instance, variable: Variable) -> Answer
+    ensures { λ r. ⌜ r ≡ valueOf x variable ⌝ }
 {
     let kind = x.kind;
     let settings = x.settings;
-    match query {
-        Query::QueryType => Answer::Byte(kind.number()),
-        Query::QueryResolution => Answer::Byte(kind.resolution()),
-        Query::QueryError => only_if(x.failed, 1),
-        Query::QueryStatus => Answer::Byte(status(x.failed, settings.enabled)),
-        Query::QueryPriority => Answer::Byte(settings.priority),
-        Query::QueryEnabled => only_if(settings.enabled, 0xFF),
-        Query::QueryFilter => Answer::Byte(settings.filter),
-        Query::QueryReport => Answer::Byte(settings.report),
-        Query::QueryDeadtime => Answer::Byte(settings.deadtime),
-        Query::QueryHysteresis => Answer::Byte(settings.hysteresis),
-        Query::QueryHysteresisMin => Answer::Byte(settings.minimum),
-        Query::QueryValue | Query::QueryNext => Answer::None,
+    match variable {
+        Variable::SensorType => Answer::Byte(kind.sensor_type()),
+        Variable::Resolution => Answer::Byte(kind.resolution()),
+        Variable::Error => only_if(x.failed, 1),
+        Variable::Status => Answer::Byte(status(x.failed, settings.enabled)),
+        Variable::Priority => Answer::Byte(settings.priority),
+        Variable::Enabled => only_if(settings.enabled, 0xFF),
+        Variable::Filter => Answer::Byte(settings.filter),
+        Variable::Report => Answer::Byte(settings.report),
+        Variable::Deadtime => Answer::Byte(settings.deadtime),
+        Variable::Hysteresis => Answer::Byte(settings.hysteresis),
+        Variable::HysteresisMin => Answer::Byte(settings.minimum),
     }
 }
 

@@ -1,6 +1,6 @@
 // The settings block that its owner lends, changed where it lies by the same change by value.
-use crate::meaning::Command;
 use crate::setting::changed;
+use opcode::Command;
 use sensor::Settings;
 ghost use Rattle.command.specs.Setting.{changed};
 ghost use mathlib.Core.Path.{_≡_};

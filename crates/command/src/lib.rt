@@ -1,19 +1,13 @@
-// What byte 3 of a frame means to an instance, and what it does (document 01, "Frames"). All by value, but for the settings block, which an instance lends.
+// What byte 3 of a frame does to an instance (document 01, "Frames"). All by value, but for the settings block, which an instance lends.
 mod answering;
 mod lent;
-mod meaning;
-mod opcode;
 mod setting;
 
 pub use answering::Acted;
 pub use answering::Answer;
 pub use answering::asked;
 pub use lent::apply;
-pub use meaning::Command;
-pub use meaning::Meaning;
-pub use meaning::Query;
-pub use opcode::light_meaning;
-pub use opcode::occupancy_meaning;
+use opcode::Meaning;
 use sensor::Instance;
 pub use setting::changed;
 pub use setting::obeyed;

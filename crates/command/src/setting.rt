@@ -1,13 +1,14 @@
 // The setting commands, by value: what each makes of the settings, of the report timer and of the triggers that wait.
 use crate::lent::apply;
-use crate::meaning::Command;
-use gate::Report;
-use gate::Rules;
-use gate::Timers;
+use opcode::Command;
 use sensor::Instance;
 use sensor::Kind;
 use sensor::Settings;
-ghost use Rattle.command.specs.Setting.{changed, kindTold, obeyed, retimed, retimedReport, withDeadtime, withEnabled, withFilter, withHysteresis, withMinimum, withPriority, withReport, withSettings};
+use timers::Report;
+use timers::Rules;
+use timers::Timers;
+ghost use Rattle.command.specs.Setting.{blockChanged, boundedHysteresis, boundedPriority, changed, filtered, obeyed, retimed, retimedReport};
+ghost use Rattle.sensor.specs.Settings.{withDeadtime, withEnabled, withFilter, withMinimum, withReport};
 ghost use mathlib.Core.Path.{_≡_};
 
 // What a command makes of the settings. kept: the filter bits that the type keeps.
@@ -15,13 +16,13 @@ pub fn changed(settings: Settings, command: Command, dtr0: u8, kept: u8) -> Sett
     ensures { λ r. ⌜ r ≡ changed settings command dtr0 kept ⌝ }
 {
     match command {
-        Command::SetPriority => with_priority(settings, dtr0),
+        Command::SetPriority => bounded_priority(settings, dtr0),
         Command::Enable => with_enabled(settings, true),
         Command::Disable => with_enabled(settings, false),
         Command::SetFilter => with_filter(settings, dtr0 & kept),
         Command::SetReport => with_report(settings, dtr0),
         Command::SetDeadtime => with_deadtime(settings, dtr0),
-        Command::SetHysteresis => with_hysteresis(settings, dtr0),
+        Command::SetHysteresis => bounded_hysteresis(settings, dtr0),
         Command::SetHysteresisMin => with_minimum(settings, dtr0),
     }
 }
@@ -30,23 +31,23 @@ pub fn changed(settings: Settings, command: Command, dtr0: u8, kept: u8) -> Sett
 pub fn obeyed(x: Instance, command: Command, dtr0: u8) -> Instance
     ensures { λ r. ⌜ r ≡ obeyed x command dtr0 ⌝ }
 {
-    let next = with_settings(x, command, dtr0);
+    let next = block_changed(x, command, dtr0);
     let kind = next.kind;
     let settings = next.settings;
     let timers = next.timers;
     let rules = kind.rules(settings);
-    let told = kind_told(kind, command, settings.filter);
+    let left = filtered(kind, command, settings.filter);
     let running = retimed(timers, command, rules);
     Instance {
-        kind: told,
+        kind: left,
         timers: running,
         ..next
     }
 }
 
 // The instance lends its settings block to the command, and nothing else of it changes.
-fn with_settings(mut x: Instance, command: Command, dtr0: u8) -> Instance
-    ensures { λ r. ⌜ r ≡ withSettings x command dtr0 ⌝ }
+fn block_changed(mut x: Instance, command: Command, dtr0: u8) -> Instance
+    ensures { λ r. ⌜ r ≡ blockChanged x command dtr0 ⌝ }
 {
     let kind = x.kind;
     let kept = kind.kept();
@@ -55,8 +56,8 @@ fn with_settings(mut x: Instance, command: Command, dtr0: u8) -> Instance
 }
 
 // Disabling clears the triggers that wait; a new filter keeps only those it allows.
-fn kind_told(kind: Kind, command: Command, filter: u8) -> Kind
-    ensures { λ r. ⌜ r ≡ kindTold kind command filter ⌝ }
+fn filtered(kind: Kind, command: Command, filter: u8) -> Kind
+    ensures { λ r. ⌜ r ≡ filtered kind command filter ⌝ }
 {
     match command {
         Command::Disable => kind.allowing(0),
@@ -95,8 +96,8 @@ fn retimed_report(report: Report, rules: Rules) -> Report
 }
 
 // 2 to 5, else no change.
-fn with_priority(settings: Settings, d: u8) -> Settings
-    ensures { λ r. ⌜ r ≡ withPriority settings d ⌝ }
+fn bounded_priority(settings: Settings, d: u8) -> Settings
+    ensures { λ r. ⌜ r ≡ boundedPriority settings d ⌝ }
 {
     if d < 2 {
         return settings;
@@ -111,7 +112,7 @@ fn with_priority(settings: Settings, d: u8) -> Settings
 }
 
 fn with_enabled(settings: Settings, on: bool) -> Settings
-    ensures { λ r. ⌜ r ≡ withEnabled settings on ⌝ }
+    ensures { λ r. ⌜ r ≡ withEnabled on settings ⌝ }
 {
     Settings {
         enabled: on,
@@ -120,7 +121,7 @@ fn with_enabled(settings: Settings, on: bool) -> Settings
 }
 
 fn with_filter(settings: Settings, d: u8) -> Settings
-    ensures { λ r. ⌜ r ≡ withFilter settings d ⌝ }
+    ensures { λ r. ⌜ r ≡ withFilter d settings ⌝ }
 {
     Settings {
         filter: d,
@@ -129,7 +130,7 @@ fn with_filter(settings: Settings, d: u8) -> Settings
 }
 
 fn with_report(settings: Settings, d: u8) -> Settings
-    ensures { λ r. ⌜ r ≡ withReport settings d ⌝ }
+    ensures { λ r. ⌜ r ≡ withReport d settings ⌝ }
 {
     Settings {
         report: d,
@@ -138,7 +139,7 @@ fn with_report(settings: Settings, d: u8) -> Settings
 }
 
 fn with_deadtime(settings: Settings, d: u8) -> Settings
-    ensures { λ r. ⌜ r ≡ withDeadtime settings d ⌝ }
+    ensures { λ r. ⌜ r ≡ withDeadtime d settings ⌝ }
 {
     Settings {
         deadtime: d,
@@ -147,8 +148,8 @@ fn with_deadtime(settings: Settings, d: u8) -> Settings
 }
 
 // Above 25: no change.
-fn with_hysteresis(settings: Settings, d: u8) -> Settings
-    ensures { λ r. ⌜ r ≡ withHysteresis settings d ⌝ }
+fn bounded_hysteresis(settings: Settings, d: u8) -> Settings
+    ensures { λ r. ⌜ r ≡ boundedHysteresis settings d ⌝ }
 {
     if 25 < d {
         return settings;
@@ -160,7 +161,7 @@ fn with_hysteresis(settings: Settings, d: u8) -> Settings
 }
 
 fn with_minimum(settings: Settings, d: u8) -> Settings
-    ensures { λ r. ⌜ r ≡ withMinimum settings d ⌝ }
+    ensures { λ r. ⌜ r ≡ withMinimum d settings ⌝ }
 {
     Settings {
         minimum: d,

@@ -1,24 +1,33 @@
 -- DEMAND 1: "Any bytes may be given as a session. The reading ends, and a refused record (numbers 1 to 9) changes nothing in the model and
 -- no output byte. Refusal 9 alone comes per tick: earlier ticks of that record stand, the tick that found no room does nothing."
 -- Assumes nothing.
+mod Bounds
+mod NumberNine
+mod PrefixLaw
+mod RefusedRecord
+mod TableInSessions
+mod TableOfNumbers
+mod Tells
 use Prim.Native.Nat.{ℕ, _<_, _≤_}
-use Rattle.bench.specs.Frame.{frameLog}
-use Rattle.bench.specs.declared.model.Model.{Model}
-use Rattle.demands.proofs.Full.{answer-full, full-answer, full-tick, left-off, tick-full}
-use Rattle.demands.proofs.Numbers.{given, holds-given}
-use Rattle.demands.proofs.Prefix.{bounded, prefix}
-use Rattle.demands.proofs.Table.{by-table, refused-there}
+use Rattle.demands.proofs.Demand1.Bounds.{bounded}
+use Rattle.demands.proofs.Demand1.NumberNine.{answer-full, full-tick, tick-full}
+use Rattle.demands.proofs.Demand1.PrefixLaw.{prefix}
+use Rattle.demands.proofs.Demand1.RefusedRecord.{left-off}
+use Rattle.demands.proofs.Demand1.TableInSessions.{by-table, refused-there}
+use Rattle.demands.proofs.Demand1.TableOfNumbers.{given, holds-given}
+use Rattle.demands.proofs.Shared.NoRoom.{full-answer}
 use Rattle.demands.specs.Numbers.{Fitted, Given, LeftOff, NoRoom, NoRoomAfter, tickedLog, tickedModel}
 use Rattle.demands.specs.Stands.{output, stands, takenWhole, written}
+use Rattle.device.specs.Frame.{frameLog}
+use Rattle.device.specs.declared.model.Model.{Model}
+use Rattle.judging.specs.Asked.{asked}
+use Rattle.judging.specs.Refusals.{numberOf}
+use Rattle.judging.specs.declared.asked.Asked.the-variants.{Frame, Refused, Ticks}
+use Rattle.judging.specs.declared.asked.Refusal.the-variants.{Full}
+use Rattle.judging.specs.declared.asked.Refusal.{Refusal}
 use Rattle.record.specs.Log.{AllBytes, Logged, bytesOf}
-use Rattle.session.proofs.Bounds.{reading-within}
-use Rattle.session.proofs.Bounds.{session-within}
-use Rattle.session.specs.Asked.{asked}
-use Rattle.session.specs.Refusals.{numberOf}
+use Rattle.session.proofs.Bounds.{reading-within, session-within}
 use Rattle.session.specs.Session.{End, reading, refused, session, step}
-use Rattle.session.specs.declared.asked.Asked.the-variants.{Frame, Refused, Ticks}
-use Rattle.session.specs.declared.asked.Refusal.the-variants.{Full}
-use Rattle.session.specs.declared.asked.Refusal.{Refusal}
 use lib.ListN.{drop, length}
 use mathlib.Core.List.{List, _++_}
 use mathlib.Core.Path.{ap, _≡_}
@@ -87,7 +96,8 @@ number-exactly rest m bytes why = (holds-given rest m bytes why, given rest m by
 -- and so where a session stands: the number is given there, and nothing changes
 pub number-there : (m : Model) (ys zs : List ℕ) (room : ℕ) → session m ys room .number ≡ 0 → 0 < length zs → AllBytes zs
     → (why : Refusal) → Given why zs (session m ys room .model)
-    → session m (ys ++ zs) room ≡ record { model = session m ys room .model; number = numberOf why; offset = length ys; ticks = 0; log = session m ys room .log }
+    → session m (ys ++ zs) room
+    ≡ record { model = session m ys room .model; number = numberOf why; offset = length ys; ticks = 0; log = session m ys room .log }
 number-there = refused-there
 
 -- 9 of one answer
@@ -101,6 +111,7 @@ pub nine-of-tick : (n t room : ℕ) (m : Model) (log : List Logged) → t < n �
     → step (Ticks n) room m log ≡ refused Full t (tickedModel t m) (tickedLog t m log)
 nine-of-tick = tick-full
 
-pub tick-of-nine : (n room : ℕ) (m : Model) (log : List Logged) {why : Refusal} {t : ℕ} {m′ : Model} {log′ : List Logged} → step (Ticks n) room m log ≡ refused why t m′ log′
+pub tick-of-nine : (n room : ℕ) (m : Model) (log : List Logged) {why : Refusal} {t : ℕ} {m′ : Model} {log′ : List Logged}
+    → step (Ticks n) room m log ≡ refused why t m′ log′
     → (t < n) × Fitted t room m log × NoRoomAfter t room m log × (why ≡ Full) × (m′ ≡ tickedModel t m) × (log′ ≡ tickedLog t m log)
 tick-of-nine = full-tick

@@ -1,32 +1,38 @@
 -- DEMAND 2: "Values, answers, triggers, events and priorities are those of IEC 62386-303 and -304 as document 01 fixes them, tick for tick. A
 -- command numbered to one instance changes no variable or timer of another."
--- The values are the definitions that the functions' promises cite, in specs/ of sensor, command, bench and session, each with its section
+-- The values are the definitions that the functions' promises cite, in specs/ of sensor, opcode, command, device, ticks, judging and session, each with its section
 -- of document 01. Here: that a session is those definitions one after another, that a record which nothing refuses is taken, what each of
 -- them leaves alone, and which models are shut out.
 -- Assumes nothing.
+mod FourKinds
+mod FullSessionRead
+mod RecordTaken
 use Prim.Native.Nat.{ℕ, _+_, _≤_}
-use Rattle.bench.proofs.Laws.{declared-other, frame-ignored, frame-other, held-other}
-use Rattle.bench.specs.Device.{declared, fresh, held, instanceAt, running}
-use Rattle.bench.specs.Frame.{counts, frameLog, frameModel, loads}
-use Rattle.bench.specs.Tick.{tickLog, tickModel}
-use Rattle.bench.specs.declared.model.Model.{Model}
 use Rattle.command.specs.Answering.{ButLatch}
-use Rattle.command.specs.Meaning.{isSetting, meaning}
-use Rattle.demands.proofs.Examples.{full, fullLog, numbers, whole}
-use Rattle.demands.proofs.Instances.{dtr0-kept, frame-latch, happen-tick, ticked-own, ticked-past}
-use Rattle.demands.proofs.Runs.{session-log, session-model}
-use Rattle.demands.proofs.Seen.{events-tick}
-use Rattle.demands.proofs.Taken.{front-known, taken-behind}
+use Rattle.demands.proofs.Demand2.FourKinds.{front-known}
+use Rattle.demands.proofs.Demand2.FullSessionRead.{whole}
+use Rattle.demands.proofs.Demand2.RecordTaken.{taken-behind}
+use Rattle.demands.proofs.Shared.EventsInLog.{events-tick}
+use Rattle.demands.proofs.Shared.FullSession.{full, fullLog, numbers}
+use Rattle.demands.proofs.Shared.OneInstance.{dtr0-kept, frame-latch, happen-tick, ticked-own}
+use Rattle.demands.proofs.Shared.Runs.{session-log, session-model}
 use Rattle.demands.specs.Alone.{Present, loadsDtr0, rises}
 use Rattle.demands.specs.Happenings.{Happening, carried, happen, logAfter, modelAfter}
 use Rattle.demands.specs.Numbers.{Front, NoneGiven}
 use Rattle.demands.specs.Stands.{roomAfter}
 use Rattle.demands.specs.Window.{eventsOf}
-use Rattle.gate.specs.Pace.{noted}
+use Rattle.device.proofs.Laws.{declared-other, frame-ignored, frame-other, held-other}
+use Rattle.device.specs.Device.{declaredModel, fresh, heldModel, instanceAt, underWay, withDtr0}
+use Rattle.device.specs.Frame.{counts, frameLog, frameModel, loads}
+use Rattle.device.specs.declared.model.Model.{Model}
+use Rattle.opcode.specs.Meaning.{isSetting, meaning}
 use Rattle.record.specs.Log.{AN, AllBytes, EV, bytesOf}
 use Rattle.sensor.specs.Tick.{isEvent, ticked}
 use Rattle.sensor.specs.declared.settings.Sample.{Sample}
-use Rattle.session.specs.Session.{End, session, told}
+use Rattle.session.specs.Session.{End, session, forC}
+use Rattle.ticks.proofs.Ticked.{tick-past}
+use Rattle.ticks.specs.Tick.{tickLog, tickModel}
+use Rattle.timers.specs.Pace.{noted}
 use borrow.Author.Tests.{eq-eqb}
 use lib.ListN.{length, take}
 use mathlib.Core.Bool.{false, true}
@@ -64,20 +70,20 @@ module _ (m : Model) where
   frame-keeps-others = frame-other m
 
   -- so it is with a sample, and with a declaration
-  pub sample-keeps-others : (i : ℕ) (sample : Sample) (j : ℕ) → j ≢ i → instanceAt (held m i sample) j ≡ instanceAt m j
+  pub sample-keeps-others : (i : ℕ) (sample : Sample) (j : ℕ) → j ≢ i → instanceAt (heldModel m i sample) j ≡ instanceAt m j
   sample-keeps-others = held-other m
 
-  pub declaration-keeps-others : (number resolution j : ℕ) → j ≢ m .count → instanceAt (declared m number resolution) j ≡ instanceAt m j
+  pub declaration-keeps-others : (type resolution j : ℕ) → j ≢ m .declared → instanceAt (declaredModel m type resolution) j ≡ instanceAt m j
   declaration-keeps-others = declared-other m
 
   -- "C1 30 d loads DTR0": and changes nothing else, but that declarations are over
-  pub load-alone : (d : ℕ) → frameModel m 0xC1 0x30 d ≡ record { tick = m .tick; dtr0 = d; count = m .count; running = true; instances = m .instances }
+  pub load-alone : (d : ℕ) → frameModel m 0xC1 0x30 d ≡ underWay (withDtr0 d m)
   unfolding frameModel loads
   load-alone d = refl
 
   -- "anything else is ignored: taken, no change, no answer": a frame that neither loads DTR0 nor counts
   pub ignored-alone : (first second third : ℕ) → loads first second ≡ false → counts m first second ≡ false
-      → (frameModel m first second third ≡ running m (m .tick) (m .dtr0) (m .instances)) × (frameLog m first second third ≡ [])
+      → (frameModel m first second third ≡ underWay m) × (frameLog m first second third ≡ [])
   ignored-alone first second third l c = frame-ignored m first second third l c
 
   -- a frame that counts, and means no setting command to its instance (a query, or no opcode of its type), changes at most its latch
@@ -94,11 +100,12 @@ module _ (m : Model) where
 
   -- a tick is each declared instance's own: what becomes of it, and whether it sends, comes from itself alone
   pub tick-of-each : {i : ℕ} → Present i m
-      → (instanceAt (tickModel m) i ≡ ticked (instanceAt m i) .instance) × (eventsOf i (tickLog m) ≡ noted (isEvent (ticked (instanceAt m i) .sent)) (m .tick + 1))
+      → (instanceAt (tickModel m) i ≡ ticked (instanceAt m i) .instance)
+      × (eventsOf i (tickLog m) ≡ noted (isEvent (ticked (instanceAt m i) .sent)) (m .tick + 1))
   tick-of-each p = (ticked-own p, events-tick p)
 
-  pub tick-keeps-undeclared : (i : ℕ) → m .count ≤ i → instanceAt (tickModel m) i ≡ instanceAt m i
-  tick-keeps-undeclared = ticked-past m
+  pub tick-keeps-undeclared : (i : ℕ) → m .declared ≤ i → instanceAt (tickModel m) i ≡ instanceAt m i
+  tick-keeps-undeclared = tick-past m
 
 -- ---- THE FOUR MODELS: "Demand 2 shuts out a model that refuses all, one that logs a fixed answer, one that does nothing, and one that works the
 -- first tick of a TK and only advances the number in the others"
@@ -110,7 +117,7 @@ module _ (m : Model) where
 -- tick 31, the 30th tick of its TK
 
 -- document 01's full session: the numbers given back, and its log, record by record and byte for byte
-pub full-session : (told (session fresh full 28) ≡ numbers 0 32 28 0)
+pub full-session : (forC (session fresh full 28) ≡ numbers 0 32 28 0)
     × (session fresh full 28 .log ≡ (EV 1 0 4 0x191 ∷ EV 31 0 4 0x179 ∷ AN 41 0 0x5E ∷ []))
     × (bytesOf (session fresh full 28 .log) ≡ fullLog)
 full-session = whole

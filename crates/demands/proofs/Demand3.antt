@@ -3,23 +3,28 @@
 -- Whatever is sampled and whatever other traffic passes, the next n ticks carried out hold at least n / R and at most n / max(D, 1) of its
 -- events, both rounded down, and no n of such ticks leaves a gap above R."
 -- Assumes nothing.
+mod AfterEvent
+mod FirstEvent
+mod FullSessionWindow
+mod SeenFromTimers
+mod WindowEvents
 use Prim.Native.Nat.{ℕ, max, _+_, _/_, _<_, _≤_}
-use Rattle.bench.specs.Device.{instanceAt}
-use Rattle.bench.specs.declared.model.Model.{Model}
-use Rattle.demands.proofs.First.{declared-soon}
-use Rattle.demands.proofs.Paced.{enabled-after, first-run, paced-run, started-after}
-use Rattle.demands.proofs.Times.{window-events}
+use Rattle.demands.proofs.Demand3.AfterEvent.{enabled-after, paced-run, started-after}
+use Rattle.demands.proofs.Demand3.FirstEvent.{declared-soon, first-run}
+use Rattle.demands.proofs.Demand3.WindowEvents.{window-events}
 use Rattle.demands.specs.Alone.{Present}
 use Rattle.demands.specs.Happenings.{Call, Happening, logAfter, ticksIn}
 use Rattle.demands.specs.Window.{D, R, Start, Undisturbed, Window, deviceAfter, events, eventsOf, last, n, rulesOf}
-use Rattle.gate.proofs.Pace.{hour-255-255, hour-30-600}
-use Rattle.gate.specs.Pace.{Paced}
-use Rattle.gate.specs.Timers.{deadTime, reportTime, started}
-use Rattle.gate.specs.declared.Report.the-variants.{Left}
+use Rattle.device.specs.Device.{instanceAt}
+use Rattle.device.specs.declared.model.Model.{Model}
 use Rattle.sensor.specs.Kind.{repeat, rules, units}
 use Rattle.sensor.specs.declared.instance.Instance.{Instance}
 use Rattle.sensor.specs.declared.kind.Kind.the-variants.{Light}
 use Rattle.sensor.specs.declared.light.Light as lights
+use Rattle.timers.proofs.Pace.{hour-255-255, hour-30-600}
+use Rattle.timers.specs.Pace.{Paced}
+use Rattle.timers.specs.Timers.{deadTime, reportTime, started}
+use Rattle.timers.specs.declared.Report.the-variants.{Left}
 use lib.ListN.{length}
 use mathlib.Core.Bool.{true}
 use mathlib.Core.List.{List, List·Memᴰ}
@@ -59,16 +64,21 @@ module _ {m₀ : Model} {calls : List Call} {i : ℕ} (w : Window m₀ calls i) 
   pub hour-of-defaults : {l : lights.Light} → x .kind ≡ Light l → x .settings .deadtime ≡ 30 → x .settings .report ≡ 30 → n (w .at) ≡ 72000
       → (120 ≤ length (events (w .at) i)) × (length (events (w .at) i) ≤ 2400)
   unfolding deadTime reportTime rules units
-  hour-of-defaults k d r e = hour-30-600 (last (w .at)) (events (w .at) i) (subst (λ t. Paced 30 600 (last (w .at)) t (events (w .at) i)) e (rw (k, d, r) at demand-3))
+  hour-of-defaults k d r e =
+      hour-30-600 (last (w .at)) (events (w .at) i)
+      (subst (λ t. Paced 30 600 (last (w .at)) t (events (w .at) i)) e (rw (k, d, r) at demand-3))
 
   -- "report 1 with deadtime 255 exactly 282"
-  pub hour-of-282 : {l : lights.Light} → x .kind ≡ Light l → x .settings .deadtime ≡ 255 → x .settings .report ≡ 1 → n (w .at) ≡ 72000 → length (events (w .at) i) ≡ 282
+  pub hour-of-282 : {l : lights.Light} → x .kind ≡ Light l → x .settings .deadtime ≡ 255 → x .settings .report ≡ 1 → n (w .at) ≡ 72000
+      → length (events (w .at) i) ≡ 282
   unfolding deadTime reportTime rules units
-  hour-of-282 k d r e = hour-255-255 (last (w .at)) (events (w .at) i) (subst (λ t. Paced 255 255 (last (w .at)) t (events (w .at) i)) e (rw (k, d, r) at demand-3))
+  hour-of-282 k d r e =
+      hour-255-255 (last (w .at)) (events (w .at) i)
+      (subst (λ t. Paced 255 255 (last (w .at)) t (events (w .at) i)) e (rw (k, d, r) at demand-3))
 
 -- What shuts out a log without events: an instance just declared, under the same premises, sends its first event by its first due report,
 -- R ticks on, at the latest. (Light reports as it is declared; the Repeat filter bit of occupancy is 0 until a command sets it.)
-module _ {m₀ : Model} {calls : List Call} {i number resolution : ℕ} (s : Start m₀ calls i number resolution) where
+module _ {m₀ : Model} {calls : List Call} {i type resolution : ℕ} (s : Start m₀ calls i type resolution) where
   abbrev declared : Instance
   declared = instanceAt (deviceAfter (s .at)) i
 
@@ -77,7 +87,8 @@ module _ {m₀ : Model} {calls : List Call} {i number resolution : ℕ} (s : Sta
 
 -- The same from any model: an enabled instance whose report is due in k ticks, and whose dead time is over by then, sends within k ticks (one
 -- at least), whatever happens but a setting command for it.
-pub first-due : (i : ℕ) (m : Model) (k : ℕ) → Present i m → instanceAt m i .settings .enabled ≡ true → repeat (instanceAt m i .kind) (instanceAt m i .settings) ≡ true
+pub first-due : (i : ℕ) (m : Model) (k : ℕ) → Present i m → instanceAt m i .settings .enabled ≡ true
+    → repeat (instanceAt m i .kind) (instanceAt m i .settings) ≡ true
     → instanceAt m i .timers .report ≡ Left k → instanceAt m i .timers .dead ≤ k → (hs : List Happening) → Undisturbed i m hs → max k 1 ≤ ticksIn hs
     → (e : ℕ) × List·Memᴰ e (eventsOf i (logAfter m hs)) × (m .tick < e) × (e ≤ m .tick + max k 1)
 first-due = first-run

@@ -1,9 +1,10 @@
 -- PIECES: a session may be read in several calls. "It goes on from the state an earlier call left" (document 01, "The bench model").
 -- Assumes nothing.
+mod InTurn
 use Prim.Native.Nat.{ℕ}
-use Rattle.bench.specs.declared.model.Model.{Model}
-use Rattle.demands.proofs.Following.{in-turn}
+use Rattle.demands.proofs.Pieces.InTurn.{in-turn}
 use Rattle.demands.specs.Stands.{behind, roomAfter}
+use Rattle.device.specs.declared.model.Model.{Model}
 use Rattle.session.specs.Session.{End, session}
 use lib.ListN.{length}
 use mathlib.Core.List.{List, _++_}

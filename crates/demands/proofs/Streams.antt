@@ -2,16 +2,24 @@
 -- "The bench model"). However its input comes in pieces, and whatever room each of its turns has, once it is over it came to what one call
 -- on the whole session comes to.
 -- Assumes nothing.
+mod FullSessionInPieces
+mod RefusedAgain
+mod RestOfSession
+mod StepsAreTurns
+mod TurnsEnd
+mod TurnsGoOn
 use Prim.Native.Nat.{ℕ, _+_, _≤_}
-use Rattle.bench.specs.Device.{fresh}
-use Rattle.bench.specs.declared.model.Model.{Model}
-use Rattle.demands.proofs.Ends.{ends}
-use Rattle.demands.proofs.Following.{behind-nothing, nothing-left}
-use Rattle.demands.proofs.Onward.{untimed}
-use Rattle.demands.proofs.Steps.{Traced, holding, traced}
-use Rattle.demands.proofs.Turning.{no-ticks, number-over, over-number, still-none, streams-from}
+use Rattle.demands.proofs.Shared.Behind.{behind-nothing}
+use Rattle.demands.proofs.Streams.RefusedAgain.{no-ticks, still-none}
+use Rattle.demands.proofs.Streams.RestOfSession.{untimed}
+use Rattle.demands.proofs.Streams.StepsAreTurns.{Traced, holding, traced}
+use Rattle.demands.proofs.Streams.TurnsEnd.{ends}
+use Rattle.demands.proofs.Streams.TurnsGoOn.{number-over, over-number, streams-from}
 use Rattle.demands.specs.Streams.{AsOne, Held, joined, over, overBy, result, start, streamed, turnBy, turned}
+use Rattle.device.specs.Device.{fresh}
+use Rattle.device.specs.declared.model.Model.{Model}
 use Rattle.record.specs.Log.{bytesOf}
+use Rattle.session.proofs.Room.{nothing-left}
 use Rattle.session.specs.Session.{End, session}
 use Rattle.stream.specs.Stream.{Reached, goesBy, goesOn, nextAfter}
 use Rattle.stream.specs.declared.Next.the-variants.{EmptiedOutput, MoreInput, Over}

@@ -1,34 +1,34 @@
 -- A session as what happened in it, one thing after another: the declarations, samples, frames and ticks that were carried out.
 -- Assumes nothing.
 use Prim.Native.Nat.{ℕ, zero, suc, _-_}
-use Rattle.bench.specs.Device.{declared, held}
-use Rattle.bench.specs.Frame.{frameLog, frameModel}
-use Rattle.bench.specs.Tick.{tickLog, tickModel}
-use Rattle.bench.specs.declared.model.Model.{Model}
+use Rattle.device.specs.Device.{declaredModel, heldModel}
+use Rattle.device.specs.Frame.{frameLog, frameModel}
+use Rattle.device.specs.declared.model.Model.{Model}
+use Rattle.judging.specs.Asked.{asked, sizeOf}
+use Rattle.judging.specs.declared.asked.Asked.the-variants.{Declare, Frame, Hold, Refused, Ticks}
+use Rattle.judging.specs.declared.asked.Asked.{Asked}
 use Rattle.record.specs.Log.{Logged, bytesOf}
 use Rattle.sensor.specs.declared.settings.Sample.{Sample}
-use Rattle.session.specs.Asked.{asked, sizeOf}
 use Rattle.session.specs.Session.{refused, session, step, taken}
-use Rattle.session.specs.declared.asked.Asked.the-variants.{Declare, Frame, Hold, Refused, Ticks}
-use Rattle.session.specs.declared.asked.Asked.{Asked}
+use Rattle.ticks.specs.Tick.{tickLog, tickModel}
 use lib.ListN.{drop, length, replicate}
 use mathlib.Core.List.{List, [], _++_, _∷_}
 
 pub data Happening : Type 0 where
-  declare : (number resolution : ℕ) → Happening
+  declare : (type resolution : ℕ) → Happening
   hold : (i : ℕ) → Sample → Happening
   frame : (first second third : ℕ) → Happening
   tick : Happening
 
 -- ---- what a happening does to the device, and what it logs
 abbrev pub happen : Model → Happening → Model
-happen m (declare number resolution) = declared m number resolution
-happen m (hold i sample) = held m i sample
+happen m (declare type resolution) = declaredModel m type resolution
+happen m (hold i sample) = heldModel m i sample
 happen m (frame first second third) = frameModel m first second third
 happen m tick = tickModel m
 
 abbrev pub logs : Model → Happening → List Logged
-logs m (declare number resolution) = []
+logs m (declare type resolution) = []
 logs m (hold i sample) = []
 logs m (frame first second third) = frameLog m first second third
 logs m tick = tickLog m
@@ -44,27 +44,27 @@ logAfter m (h ∷ hs) = logs m h ++ logAfter (happen m h) hs
 
 unfoldable pub ticksIn : List Happening → ℕ
 ticksIn [] = 0
-ticksIn (declare number resolution ∷ hs) = ticksIn hs
+ticksIn (declare type resolution ∷ hs) = ticksIn hs
 ticksIn (hold i sample ∷ hs) = ticksIn hs
 ticksIn (frame first second third ∷ hs) = ticksIn hs
 ticksIn (tick ∷ hs) = suc (ticksIn hs)
 
 -- ---- what a session carried out
--- what a record that is taken tells of
-abbrev pub told : Asked → List Happening
-told (Refused why) = []
-told (Declare number resolution) = declare number resolution ∷ []
-told (Hold i sample) = hold i sample ∷ []
-told (Frame first second third) = frame first second third ∷ []
-told (Ticks n) = replicate n tick
+-- what a record that is taken asks for
+abbrev pub asksFor : Asked → List Happening
+asksFor (Refused why) = []
+asksFor (Declare type resolution) = declare type resolution ∷ []
+asksFor (Hold i sample) = hold i sample ∷ []
+asksFor (Frame first second third) = frame first second third ∷ []
+asksFor (Ticks n) = replicate n tick
 
--- of at most so many records: of each that is taken what it tells of, and of a refused one its ticks that were carried out
+-- of at most so many records: of each that is taken what it asks for, and of a refused one its ticks that were carried out
 unfoldable pub carriedIn : (most : ℕ) → (rest : List ℕ) → (room : ℕ) → Model → List Happening
 carriedIn zero rest room m = []
 carriedIn (suc most) [] room m = []
 carriedIn (suc most) (b ∷ rest) room m =
     elim (step (asked (b ∷ rest) m) room m []) [
-      | taken m′ log ↦ told (asked (b ∷ rest) m) ++ carriedIn most (drop (sizeOf (asked (b ∷ rest) m)) (b ∷ rest)) (room - length (bytesOf log)) m′
+      | taken m′ log ↦ asksFor (asked (b ∷ rest) m) ++ carriedIn most (drop (sizeOf (asked (b ∷ rest) m)) (b ∷ rest)) (room - length (bytesOf log)) m′
       | refused why ticks m′ log ↦ replicate ticks tick
     ]
 

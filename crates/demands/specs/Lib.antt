@@ -4,4 +4,3 @@ pub mod Alone
 pub mod Window
 pub mod Numbers
 pub mod Streams
-pub mod Unique

@@ -3,71 +3,76 @@
 -- four kinds of a session's records.
 -- Assumes nothing.
 use Prim.Native.Nat.{ℕ, _+_, _-_, _<_, _^_, _≤_}
-use Rattle.bench.specs.Device.{instanceAt}
-use Rattle.bench.specs.Tick.{tickLog}
-use Rattle.bench.specs.declared.model.Model.{Model}
 use Rattle.demands.specs.Happenings.{Happening, declare, frame, hold, logAfter, modelAfter, tick}
+use Rattle.device.specs.Device.{instanceAt}
+use Rattle.device.specs.declared.model.Model.{Model}
+use Rattle.judging.specs.Asked.{asked, sampleIn}
+use Rattle.judging.specs.Refusals.{numberOf}
+use Rattle.judging.specs.declared.asked.Refusal.the-variants.{BadSample, Cut, Full, LateOrSkipped, NoSuchSensor, NoTicks, TimeOver, Undeclared, UnknownMark}
+use Rattle.judging.specs.declared.asked.Refusal.{Refusal}
 use Rattle.record.specs.Log.{Logged, bytesOf}
+use Rattle.record.specs.Marks as marks
+use Rattle.record.specs.Marks.{markSize}
+use Rattle.record.specs.Numbers.{byte, word}
+use Rattle.record.specs.declared.marks.Mark.the-variants.{Bus, Declaration, Measurement, Time}
 use Rattle.sensor.specs.declared.kind.Kind.the-variants.{Light, Occupancy}
 use Rattle.sensor.specs.declared.kind.Kind.{Kind}
 use Rattle.sensor.specs.declared.settings.Sample.{Sample}
-use Rattle.session.specs.Asked.{asked, byte, sampleIn, word}
-use Rattle.session.specs.Refusals.{numberOf}
 use Rattle.session.specs.Session.{End, refused, session, step}
-use Rattle.session.specs.declared.asked.Refusal.the-variants.{BadSample, Cut, Full, LateOrSkipped, NoSuchSensor, NoTicks, TimeOver, Undeclared, UnknownMark}
-use Rattle.session.specs.declared.asked.Refusal.{Refusal}
+use Rattle.ticks.specs.Tick.{tickLog}
 use lib.ListN.{drop, length, replicate, take}
 use mathlib.Core.Bool.{true}
 use mathlib.Core.List.{List, [], _++_, _∷_}
 use mathlib.Core.Logic.{_≢_, _⊎_}
 use mathlib.Core.Path.{_≡_}
 
--- ---- marks: two letters in ASCII
-abbrev pub Marked : (a b : ℕ) → List ℕ → Type 0
-Marked a b rest = (2 ≤ length rest) × (byte rest 0 ≡ a) × (byte rest 1 ≡ b)
+-- ---- marks: the two letters at the front
+abbrev pub Marked : (letters : ℕ) → List ℕ → Type 0
+Marked letters rest = (2 ≤ length rest) × (word rest 0 ≡ letters)
 
 abbrev pub IN : List ℕ → Type 0
-IN rest = Marked 0x49 0x4E rest
+IN rest = Marked marks.IN rest
 
 abbrev pub SA : List ℕ → Type 0
-SA rest = Marked 0x53 0x41 rest
+SA rest = Marked marks.SA rest
 
 abbrev pub FR : List ℕ → Type 0
-FR rest = Marked 0x46 0x52 rest
+FR rest = Marked marks.FR rest
 
 abbrev pub TK : List ℕ → Type 0
-TK rest = Marked 0x54 0x4B rest
+TK rest = Marked marks.TK rest
 
 -- ---- the four kinds: the record at the front of `rest` by its mark, its size, and what it tells of
 pub data Front (rest : List ℕ) : (size : ℕ) → List Happening → Type 0 where
   -- IN: instance number, type, resolution
-  declares : IN rest → Front rest 5 (declare (byte rest 3) (byte rest 4) ∷ [])
+  declares : IN rest → Front rest (markSize Declaration) (declare (byte rest 3) (byte rest 4) ∷ [])
   -- SA: instance, status, value (3 bytes)
-  holds : SA rest → Front rest 7 (hold (byte rest 2) (sampleIn rest) ∷ [])
+  holds : SA rest → Front rest (markSize Measurement) (hold (byte rest 2) (sampleIn rest) ∷ [])
   -- FR: the three frame bytes
-  frames : FR rest → Front rest 5 (frame (byte rest 2) (byte rest 3) (byte rest 4) ∷ [])
+  frames : FR rest → Front rest (markSize Bus) (frame (byte rest 2) (byte rest 3) (byte rest 4) ∷ [])
   -- TK: tick count (2 bytes)
-  passes : TK rest → Front rest 4 (replicate (word rest 2) tick)
+  passes : TK rest → Front rest (markSize Time) (replicate (word rest 2) tick)
 
 -- ---- the conditions of the rows
 -- "IN after a record of another kind, or its number isn't the next"
 abbrev pub Late : List ℕ → Model → Type 0
-Late rest m = (m .running ≡ true) ⊎ (byte rest 2 ≢ m .count)
+Late rest m = (m .running ≡ true) ⊎ (byte rest 2 ≢ m .declared)
 
 -- "IN number 16 or above; type not 3 or 4; type 3 with resolution not 2; type 4 with resolution outside 1 to 24"
-abbrev pub NoSensor : (number type resolution : ℕ) → Type 0
-NoSensor number type resolution =
-    (16 ≤ number) ⊎ ((type ≢ 3) × (type ≢ 4)) ⊎ ((type ≡ 3) × (resolution ≢ 2)) ⊎ ((type ≡ 4) × ((resolution < 1) ⊎ (24 < resolution)))
+abbrev pub NoSensor : (instance type resolution : ℕ) → Type 0
+NoSensor instance type resolution =
+    (16 ≤ instance) ⊎ ((type ≢ 3) × (type ≢ 4)) ⊎ ((type ≡ 3) × (resolution ≢ 2)) ⊎ ((type ≡ 4) × ((resolution < 1) ⊎ (24 < resolution)))
 
 -- an instance that is declared; there are at most sixteen
 abbrev pub Declared : Model → (i : ℕ) → Type 0
-Declared m i = (i < m .count) × (i < 16)
+Declared m i = (i < m .declared) × (i < 16)
 
 -- "Sample status: 0 valid, 1 not ready (type 4 only), 2 physical failure. Light value with status 0: 0 to 2^resolution - 2. Occupancy: 0 to 3.
 -- With status 1 or 2 the value must be 0."
 abbrev pub Allowed : Kind → Sample → Type 0
 Allowed (Light l) sample =
-    ((sample .status ≡ 0) × (sample .value + 2 ≤ 2 ^ (l .resolution))) ⊎ ((sample .status ≡ 1) × (sample .value ≡ 0)) ⊎ ((sample .status ≡ 2) × (sample .value ≡ 0))
+    ((sample .status ≡ 0) × (sample .value + 2 ≤ 2 ^ (l .resolution)))
+    ⊎ ((sample .status ≡ 1) × (sample .value ≡ 0)) ⊎ ((sample .status ≡ 2) × (sample .value ≡ 0))
 Allowed (Occupancy o) sample = ((sample .status ≡ 0) × (sample .value ≤ 3)) ⊎ ((sample .status ≡ 2) × (sample .value ≡ 0))
 
 -- ---- the table: the record at the front of `rest` is refused so, in a device m
@@ -76,20 +81,22 @@ abbrev pub Given : Refusal → List ℕ → Model → Type 0
 Given UnknownMark rest m = (2 ≤ length rest) × (IN rest → ⊥) × (SA rest → ⊥) × (FR rest → ⊥) × (TK rest → ⊥)
 -- 2: fewer bytes remain than the mark, or the record, needs
 Given Cut rest m =
-    (length rest < 2) ⊎ (IN rest × (length rest < 5)) ⊎ (SA rest × (length rest < 7)) ⊎ (FR rest × (length rest < 5)) ⊎ (TK rest × (length rest < 4))
+    (length rest < 2)
+    ⊎ (IN rest × (length rest < markSize Declaration)) ⊎ (SA rest × (length rest < markSize Measurement))
+    ⊎ (FR rest × (length rest < markSize Bus)) ⊎ (TK rest × (length rest < markSize Time))
 -- 3: IN after a record of another kind, or its number isn't the next, from 0
-Given LateOrSkipped rest m = IN rest × (5 ≤ length rest) × Late rest m
+Given LateOrSkipped rest m = IN rest × (markSize Declaration ≤ length rest) × Late rest m
 -- 4: no such sensor
-Given NoSuchSensor rest m = IN rest × (5 ≤ length rest) × (Late rest m → ⊥) × NoSensor (byte rest 2) (byte rest 3) (byte rest 4)
+Given NoSuchSensor rest m = IN rest × (markSize Declaration ≤ length rest) × (Late rest m → ⊥) × NoSensor (byte rest 2) (byte rest 3) (byte rest 4)
 -- 5: SA for an undeclared instance
-Given Undeclared rest m = SA rest × (7 ≤ length rest) × (Declared m (byte rest 2) → ⊥)
+Given Undeclared rest m = SA rest × (markSize Measurement ≤ length rest) × (Declared m (byte rest 2) → ⊥)
 -- 6: SA status or value not allowed
 Given BadSample rest m =
-    SA rest × (7 ≤ length rest) × Declared m (byte rest 2) × (Allowed (instanceAt m (byte rest 2) .kind) (sampleIn rest) → ⊥)
+    SA rest × (markSize Measurement ≤ length rest) × Declared m (byte rest 2) × (Allowed (instanceAt m (byte rest 2) .kind) (sampleIn rest) → ⊥)
 -- 7: TK count 0
-Given NoTicks rest m = TK rest × (4 ≤ length rest) × (word rest 2 ≡ 0)
+Given NoTicks rest m = TK rest × (markSize Time ≤ length rest) × (word rest 2 ≡ 0)
 -- 8: tick number would pass 4,294,967,295
-Given TimeOver rest m = TK rest × (4 ≤ length rest) × (word rest 2 ≢ 0) × (4294967295 < m .tick + word rest 2)
+Given TimeOver rest m = TK rest × (markSize Time ≤ length rest) × (word rest 2 ≢ 0) × (4294967295 < m .tick + word rest 2)
 -- 9 is a matter of the output that is left, and not of the record alone
 Given Full rest m = ⊥
 

@@ -2,9 +2,9 @@
 -- Assumes nothing.
 use Prim.Native.Nat.{ℕ, zero, suc, _+_, _-_}
 use Rattle.record.specs.Log.{Logged, bytesOf}
+use Rattle.record.specs.Marks.{ticks}
 use Rattle.record.specs.Put.{put}
 use Rattle.session.specs.Session.{End}
-use Rattle.stream.specs.Stream.{ticks}
 use lib.ListN.{length, take}
 use mathlib.Core.List.{List, [], _++_}
 

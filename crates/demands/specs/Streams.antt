@@ -2,7 +2,7 @@
 -- an earlier call left, after number 2 with more input, after 9 with an emptied output and, inside a TK, a TK of the ticks that remain".
 -- Assumes nothing.
 use Prim.Native.Nat.{ℕ, _%_, _+_, _^_}
-use Rattle.bench.specs.declared.model.Model.{Model}
+use Rattle.device.specs.declared.model.Model.{Model}
 use Rattle.record.specs.Log.{Logged, bytesOf}
 use Rattle.session.specs.Session.{End, session}
 use Rattle.stream.specs.Stream.{goesBy, nextAfter, unread}

@@ -1,19 +1,19 @@
 -- Demand 3: the events of an instance in a log, and the window of ticks after one of them.
 -- Assumes nothing.
 use Prim.Native.Nat.{ℕ, _+_, _<_}
-use Rattle.bench.specs.Device.{instanceAt}
-use Rattle.bench.specs.Frame.{counts}
-use Rattle.bench.specs.Tick.{tickLog}
-use Rattle.bench.specs.declared.model.Model.{Model}
-use Rattle.command.specs.Meaning.{isSetting, meaning}
 use Rattle.demands.specs.Happenings.{Call, Happening, bytesWritten, carriedOut, declare, frame, happen, hold, modelAfter, tick, ticksIn}
-use Rattle.gate.specs.Pace.{noted}
-use Rattle.gate.specs.Timers.{deadTime, reportTime}
-use Rattle.gate.specs.declared.Rules.{Rules}
+use Rattle.device.specs.Device.{instanceAt}
+use Rattle.device.specs.Frame.{counts}
+use Rattle.device.specs.declared.model.Model.{Model}
+use Rattle.opcode.specs.Meaning.{isSetting, meaning}
 use Rattle.record.specs.Log.{AN, EV, Logged, decoded}
 use Rattle.sensor.specs.Kind.{repeat, rules}
 use Rattle.sensor.specs.Tick.{valid}
 use Rattle.sensor.specs.declared.instance.Instance.{Instance}
+use Rattle.ticks.specs.Tick.{tickLog}
+use Rattle.timers.specs.Pace.{noted}
+use Rattle.timers.specs.Timers.{deadTime, reportTime}
+use Rattle.timers.specs.declared.Rules.{Rules}
 use lib.Dec.{eqb, leb, ltb}
 use lib.ListN.{length}
 use mathlib.Core.Bool.{Bool, false, true, _&&_}
@@ -48,7 +48,7 @@ abbrev pub setsIt : (i : ℕ) → Model → (first second third : ℕ) → Bool
 setsIt i m first second third = (counts m first second && eqb second i) && isSetting (meaning (instanceAt m i .kind) third)
 
 abbrev pub Calm : (i : ℕ) → Model → Happening → Type 0
-Calm i m (declare number resolution) = Unit {0}
+Calm i m (declare type resolution) = Unit {0}
 Calm i m (hold j sample) = Unit {0}
 Calm i m (frame first second third) = setsIt i m first second third ≡ false
 Calm i m tick = valid (instanceAt m i) ≡ true
@@ -95,9 +95,9 @@ pub record Window (m₀ : Model) (calls : List Call) (i : ℕ) : Type 0 where
   pub undisturbed : Undisturbed i (deviceAfter at) (at .during)
 
 -- the window after an IN that declared instance i
-pub record Start (m₀ : Model) (calls : List Call) (i number resolution : ℕ) : Type 0 where
-  pub at : Cut m₀ calls (declare number resolution)
-  pub next : i ≡ deviceBefore at .count
+pub record Start (m₀ : Model) (calls : List Call) (i type resolution : ℕ) : Type 0 where
+  pub at : Cut m₀ calls (declare type resolution)
+  pub next : i ≡ deviceBefore at .declared
   pub there : i < 16
   pub sixteen : length (m₀ .instances) ≡ 16
   pub reports : Reports (instanceAt (deviceAfter at) i)

@@ -6,13 +6,13 @@ use libc::STDERR_FILENO;
 pub fn say(r: Ran) {
     let p = r.progress;
     write(b"potmeander: ");
-    count(p.records, b" record");
+    so_many(p.records, b" record");
     write(b", ");
-    count(p.passed, b" byte");
+    so_many(p.passed, b" byte");
     write(b" read; ");
-    count(p.model.tick as u64, b" tick");
+    so_many(p.model.tick as u64, b" tick");
     write(b"; ");
-    count(r.logged, b" byte");
+    so_many(r.logged, b" byte");
     write(b" logged");
     refusal(r);
     failure(r);
@@ -42,12 +42,12 @@ fn refused(number: u8, offset: u64) {
         io::print_decimal(STDERR_FILENO, offset);
         write(b": ");
         io::print_decimal(STDERR_FILENO, number as u64);
-        meaning(number);
+        words_of(number);
     }
 }
 
 // Document 01, "Numbers given when a record is not taken".
-fn meaning(number: u8) {
+fn words_of(number: u8) {
     match number {
         1 => write(b", mark unknown"),
         2 => write(b", fewer bytes remain than the mark, or the record, needs"),
@@ -73,19 +73,19 @@ fn failure(r: Ran) {
 
 fn read_failure(after: u64) {
     write(b"; reading the session failed after ");
-    count(after, b" byte");
+    so_many(after, b" byte");
 }
 
 fn write_failure(lost: u64) {
     if lost > 0 {
         write(b"; writing the log failed, ");
-        count(lost, b" byte");
+        so_many(lost, b" byte");
         write(b" of it lost");
     }
 }
 
-// A number and what it counts.
-fn count(n: u64, noun: &[u8]) {
+// So many of something.
+fn so_many(n: u64, noun: &[u8]) {
     io::print_decimal(STDERR_FILENO, n);
     write(noun);
     if n != 1 {

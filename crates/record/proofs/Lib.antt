@@ -1,2 +1,4 @@
 pub mod Log
 pub mod Laws
+pub mod Bytes
+pub mod Unique

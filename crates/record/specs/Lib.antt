@@ -1,2 +1,4 @@
+pub mod Numbers
+pub mod Marks
 pub mod Log
 pub mod Put

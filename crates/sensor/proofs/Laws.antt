@@ -1,18 +1,18 @@
--- What a sample and a tick do to an instance, whatever its type: each law goes by the gate's answer, and never looks into a sensor.
+-- What a sample and a tick do to an instance, whatever its type: each law goes by what was decided, and never looks into a sensor.
 -- Assumes nothing.
-use Rattle.gate.specs.Gate.{after, decided, sends}
-use Rattle.gate.specs.Timers.{fallen, started}
-use Rattle.gate.specs.declared.Gate.the-variants.{Reported, Silent, Triggered}
-use Rattle.gate.specs.declared.Gate.{Gate}
-use Rattle.gate.specs.declared.Rules.{Rules}
-use Rattle.gate.specs.declared.Timers.{Timers}
 use Rattle.sensor.specs.Kind.{cause, repeat, rules, sent, taken, units}
-use Rattle.sensor.specs.Tick.{closed, gateAt, holding, isEvent, kindAfter, rulesAt, sentAfter, takenKind, ticked, valid}
+use Rattle.sensor.specs.Tick.{closed, decisionAt, holding, isEvent, kindAfter, rulesAt, sentAfter, takenKind, ticked, valid}
 use Rattle.sensor.specs.declared.instance.Instance.{Instance}
 use Rattle.sensor.specs.declared.kind.Kind.the-variants.{Light, Occupancy}
 use Rattle.sensor.specs.declared.kind.Kind.{Kind}
 use Rattle.sensor.specs.declared.settings.Sample.{Sample}
 use Rattle.sensor.specs.declared.settings.Settings.{Settings}
+use Rattle.timers.specs.Decision.{after, decided, sends}
+use Rattle.timers.specs.Timers.{fallen, started}
+use Rattle.timers.specs.declared.Decision.the-variants.{Reported, Silent, Triggered}
+use Rattle.timers.specs.declared.Decision.{Decision}
+use Rattle.timers.specs.declared.Rules.{Rules}
+use Rattle.timers.specs.declared.Timers.{Timers}
 use borrow.Author.Tests.{eqb-true}
 use lib.Dec.{eqb}
 use mathlib.Core.Bool.{Bool, cond, false, false≢true, true, true≢false, _&&_}
@@ -23,7 +23,7 @@ pub both : (a b : Bool) → a && b ≡ true → (a ≡ true) × (b ≡ true)
 both true b e = (refl, e)
 both false b e = absurd (false≢true e)
 
--- ---- a sensor keeps its type, and so what the gate goes by: the only laws that name the types
+-- ---- a sensor keeps its type, and so what the decision goes by: the only laws that name the types
 taken-units : (k : Kind) (s : Settings) (held : Sample) → units (taken k s held) ≡ units k
 unfolding units taken
 taken-units (Light l) s held = refl
@@ -48,7 +48,7 @@ sent-rules : (k : Kind) (s : Settings) → rules (sent k s) s ≡ rules k s
 unfolding rules
 sent-rules k s = rw (sent-units k s, sent-repeat k s)
 
-after-rules : (gate : Gate) (k : Kind) (s : Settings) → rules (kindAfter gate k s) s ≡ rules k s
+after-rules : (decision : Decision) (k : Kind) (s : Settings) → rules (kindAfter decision k s) s ≡ rules k s
 unfolding kindAfter
 after-rules Silent k s = refl
 after-rules Triggered k s = sent-rules k s
@@ -62,7 +62,7 @@ taken-rules x = rw (taken-units (x .kind) (x .settings) (x .held), taken-repeat 
 -- and so does a whole tick
 pub rules-kept : (x : Instance) → rules (ticked x .instance .kind) (ticked x .instance .settings) ≡ rules (x .kind) (x .settings)
 unfolding ticked closed
-rules-kept x = after-rules (gateAt x) (takenKind x) (x .settings) ∙ taken-rules x
+rules-kept x = after-rules (decisionAt x) (takenKind x) (x .settings) ∙ taken-rules x
 
 -- ---- a sample: SA only replaces the held sample
 pub holding-keeps :
@@ -89,33 +89,33 @@ pub latch-kept : (x : Instance) → ticked x .instance .latch ≡ x .latch
 unfolding ticked closed
 latch-kept x = refl
 
--- ---- a tick: the gate decides by the rules that are set
-pub gate-decided : (x : Instance) → gateAt x ≡ decided (rules (x .kind) (x .settings)) (valid x) (fallen (x .timers)) (cause (takenKind x) (x .settings))
-gate-decided x = ap (λ r. decided r (valid x) (fallen (x .timers)) (cause (takenKind x) (x .settings))) (taken-rules x)
+-- ---- a tick: the decision goes by the rules that are set
+pub decision-made : (x : Instance) → decisionAt x ≡ decided (rules (x .kind) (x .settings)) (valid x) (fallen (x .timers)) (cause (takenKind x) (x .settings))
+decision-made x = ap (λ r. decided r (valid x) (fallen (x .timers)) (cause (takenKind x) (x .settings))) (taken-rules x)
 
 -- its timers after a tick
-pub ticked-timers : (x : Instance) → ticked x .instance .timers ≡ after (gateAt x) (rules (x .kind) (x .settings)) (fallen (x .timers))
+pub ticked-timers : (x : Instance) → ticked x .instance .timers ≡ after (decisionAt x) (rules (x .kind) (x .settings)) (fallen (x .timers))
 unfolding ticked closed
-ticked-timers x = ap (λ r. after (gateAt x) r (fallen (x .timers))) (taken-rules x)
+ticked-timers x = ap (λ r. after (decisionAt x) r (fallen (x .timers))) (taken-rules x)
 
--- ---- an event goes out exactly where the gate sends
-event-after : (gate : Gate) (k : Kind) (s : Settings) → isEvent (sentAfter gate k s) ≡ sends gate
+-- ---- an event goes out exactly where it was decided
+event-after : (decision : Decision) (k : Kind) (s : Settings) → isEvent (sentAfter decision k s) ≡ sends decision
 unfolding sentAfter sends
 event-after Silent k s = refl
 event-after Triggered k s = refl
 event-after Reported k s = refl
 
-pub sent-gate : (x : Instance) → isEvent (ticked x .sent) ≡ sends (gateAt x)
+pub sent-decided : (x : Instance) → isEvent (ticked x .sent) ≡ sends (decisionAt x)
 unfolding ticked closed
-sent-gate x = event-after (gateAt x) (takenKind x) (x .settings)
+sent-decided x = event-after (decisionAt x) (takenKind x) (x .settings)
 
-after-sends : (gate : Gate) (r : Rules) (t : Timers) → sends gate ≡ true → after gate r t ≡ started r
+after-sends : (decision : Decision) (r : Rules) (t : Timers) → sends decision ≡ true → after decision r t ≡ started r
 unfolding sends after
 after-sends Silent r t e = absurd (false≢true e)
 after-sends Triggered r t e = refl
 after-sends Reported r t e = refl
 
-after-silent : (gate : Gate) (r : Rules) (t : Timers) → sends gate ≡ false → after gate r t ≡ t
+after-silent : (decision : Decision) (r : Rules) (t : Timers) → sends decision ≡ false → after decision r t ≡ t
 unfolding sends after
 after-silent Silent r t e = refl
 after-silent Triggered r t e = absurd (true≢false e)
@@ -123,23 +123,23 @@ after-silent Reported r t e = absurd (true≢false e)
 
 -- each event starts dead time and, if its multiplier isn't 0, the report timer
 pub sent-starts : (x : Instance) → isEvent (ticked x .sent) ≡ true → ticked x .instance .timers ≡ started (rules (x .kind) (x .settings))
-sent-starts x e = ticked-timers x ∙ after-sends (gateAt x) (rules (x .kind) (x .settings)) (fallen (x .timers)) (sym (sent-gate x) ∙ e)
+sent-starts x e = ticked-timers x ∙ after-sends (decisionAt x) (rules (x .kind) (x .settings)) (fallen (x .timers)) (sym (sent-decided x) ∙ e)
 
 -- a tick without an event only lets the timers fall
 pub silent-falls : (x : Instance) → isEvent (ticked x .sent) ≡ false → ticked x .instance .timers ≡ fallen (x .timers)
-silent-falls x e = ticked-timers x ∙ after-silent (gateAt x) (rules (x .kind) (x .settings)) (fallen (x .timers)) (sym (sent-gate x) ∙ e)
+silent-falls x e = ticked-timers x ∙ after-silent (decisionAt x) (rules (x .kind) (x .settings)) (fallen (x .timers)) (sym (sent-decided x) ∙ e)
 
 -- ---- never while disabled, with status 1 or 2, or while dead time is above 0
-only-open : (enabled valid over : Bool) (gate : Gate) → sends (cond ((enabled && valid) && over) gate Silent) ≡ true → (enabled ≡ true) × (valid ≡ true) × (over ≡ true)
+only-open : (enabled valid over : Bool) (decision : Decision) → sends (cond ((enabled && valid) && over) decision Silent) ≡ true → (enabled ≡ true) × (valid ≡ true) × (over ≡ true)
 unfolding sends
-only-open true true true gate e = (refl, refl, refl)
-only-open true true false gate e = absurd (false≢true e)
-only-open true false over gate e = absurd (false≢true e)
-only-open false valid over gate e = absurd (false≢true e)
+only-open true true true decision e = (refl, refl, refl)
+only-open true true false decision e = absurd (false≢true e)
+only-open true false over decision e = absurd (false≢true e)
+only-open false valid over decision e = absurd (false≢true e)
 
 opened : (x : Instance) → isEvent (ticked x .sent) ≡ true → (x .settings .enabled ≡ true) × (valid x ≡ true) × (eqb (fallen (x .timers) .dead) 0 ≡ true)
 unfolding decided rules
-opened x e = only-open (x .settings .enabled) (valid x) (eqb (fallen (x .timers) .dead) 0) _ (sym (sent-gate x) ∙ e)
+opened x e = only-open (x .settings .enabled) (valid x) (eqb (fallen (x .timers) .dead) 0) _ (sym (sent-decided x) ∙ e)
 
 pub only-enabled : (x : Instance) → isEvent (ticked x .sent) ≡ true → x .settings .enabled ≡ true
 only-enabled x e = opened x e .0

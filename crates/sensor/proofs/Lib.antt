@@ -3,3 +3,6 @@ pub mod Table
 pub mod Marked
 mod Examples
 pub mod Quiet
+pub mod Fresh
+pub mod Reporting
+pub mod Unique

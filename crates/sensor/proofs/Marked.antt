@@ -1,9 +1,9 @@
 -- Every row of document 01's marked table, and of IEC 62386-304, Table 4, holds: one computation a table.
 -- Assumes nothing.
-use Rattle.gate.specs.Timers.{deadTime, reportTime}
 use Rattle.sensor.proofs.Table.{each, every}
 use Rattle.sensor.specs.Light.{minimum, width}
 use Rattle.sensor.specs.Marked.{Row, expected, marked, said, table4}
+use Rattle.timers.specs.Timers.{deadTime, reportTime}
 use Rattle.widen.specs.Width.{widened}
 use lib.Dec.{T, eqb, eqb→eq}
 use mathlib.Core.Bool.{Bool}

@@ -1,16 +1,12 @@
 -- Quiet ticks can be passed over: while `quietFor` lasts, a tick sends nothing and only lets timers fall.
 -- Assumes nothing.
 use Prim.Native.Nat.{ℕ, suc, _%_, _/_, _<_}
-use Rattle.gate.proofs.Quiet as gates
-use Rattle.gate.specs.Gate.{after, sends}
-use Rattle.gate.specs.declared.Gate.the-variants.{Reported, Silent, Triggered}
-use Rattle.gate.specs.declared.Gate.{Gate}
-use Rattle.sensor.proofs.Laws.{both, only-valid, sent-gate}
+use Rattle.sensor.proofs.Laws.{both, only-valid, sent-decided}
 use Rattle.sensor.specs.Kind.{cause, rules, sent, taken}
 use Rattle.sensor.specs.Light.{lightSent, lightTaken}
 use Rattle.sensor.specs.Occupancy.{change, occupancySent, occupancyTaken, triggers, waits}
 use Rattle.sensor.specs.Quiet.{lightSettled, noBand, occupancySettled, quietFor, rested, settled, steady}
-use Rattle.sensor.specs.Tick.{closed, gateAt, kindAfter, sentAfter, takenKind, ticked, valid}
+use Rattle.sensor.specs.Tick.{closed, decisionAt, kindAfter, sentAfter, takenKind, ticked, valid}
 use Rattle.sensor.specs.declared.instance.Instance.{Instance}
 use Rattle.sensor.specs.declared.instance.Sent.the-variants.{Nothing}
 use Rattle.sensor.specs.declared.kind.Kind.the-variants as kinds
@@ -21,6 +17,10 @@ use Rattle.sensor.specs.declared.light.Light.{Light}
 use Rattle.sensor.specs.declared.occupancy.Occupancy.{Occupancy}
 use Rattle.sensor.specs.declared.settings.Sample.{Sample}
 use Rattle.sensor.specs.declared.settings.Settings.{Settings}
+use Rattle.timers.proofs.Quiet as gates
+use Rattle.timers.specs.Decision.{after, sends}
+use Rattle.timers.specs.declared.Decision.the-variants.{Reported, Silent, Triggered}
+use Rattle.timers.specs.declared.Decision.{Decision}
 use borrow.Author.Tests.{eq-eqb, eqb-true, le-ltb}
 use lib.Bits.{and-zero-l, bitAnd, bitOr, or-zero-r}
 use lib.Dec.{eqb}
@@ -153,8 +153,8 @@ sent-settles (kinds.Occupancy o) s held v e =
     rw (v, p, or-true (s .enabled))
 
 -- an event needs a valid sample
-after-settles : (gate : Gate) (k : Kind) (s : Settings) (held : Sample) → (sends gate ≡ true → eqb (held .status) 0 ≡ true)
-    → settled k s held ≡ true → settled (kindAfter gate k s) s held ≡ true
+after-settles : (decision : Decision) (k : Kind) (s : Settings) (held : Sample) → (sends decision ≡ true → eqb (held .status) 0 ≡ true)
+    → settled k s held ≡ true → settled (kindAfter decision k s) s held ≡ true
 unfolding kindAfter sends
 after-settles Silent k s held v e = e
 after-settles Triggered k s held v e = sent-settles k s held (v refl) e
@@ -164,5 +164,5 @@ pub tick-settles : (x : Instance) → steady (ticked x .instance) ≡ true
 unfolding steady ticked closed
 tick-settles x =
     let taken = taken-settles (x .kind) (x .settings) (x .held) in
-    let kind = after-settles (gateAt x) (takenKind x) (x .settings) (x .held) (λ e. only-valid x (sent-gate x ∙ e)) taken in
+    let kind = after-settles (decisionAt x) (takenKind x) (x .settings) (x .held) (λ e. only-valid x (sent-decided x ∙ e)) taken in
     rw (kind, same-self (eqb (x .held .status) 2))

@@ -1,14 +1,14 @@
 -- What each type of sensor gives to a tick, to commands and to queries (document 01, "Each type carries its own defaults, units and opcodes").
 -- Assumes nothing.
 use Prim.Native.Nat.{ℕ}
-use Rattle.gate.specs.declared.Rules.{Rules}
-use Rattle.gate.specs.declared.Units.{Units}
 use Rattle.sensor.specs.Light.{lightAllows, lightCause, lightInformation, lightInput, lightRepeat, lightSent, lightTaken, lightUnits}
 use Rattle.sensor.specs.Occupancy.{occupancyAllowing, occupancyAllows, occupancyCause, occupancyInformation, occupancyInput, occupancyRepeat, occupancySent, occupancyTaken, occupancyUnits}
 use Rattle.sensor.specs.declared.kind.Kind.the-variants.{Light, Occupancy}
 use Rattle.sensor.specs.declared.kind.Kind.{Kind}
 use Rattle.sensor.specs.declared.settings.Sample.{Sample}
 use Rattle.sensor.specs.declared.settings.Settings.{Settings}
+use Rattle.timers.specs.declared.Rules.{Rules}
+use Rattle.timers.specs.declared.Units.{Units}
 use lib.Dec.{eqb, leb}
 use mathlib.Core.Bool.{Bool, cond, _&&_}
 
@@ -37,14 +37,14 @@ unfoldable pub information : Kind → (repeats : Bool) → ℕ
 information (Light l) repeats = lightInformation l
 information (Occupancy o) repeats = occupancyInformation o repeats
 
--- what the gate goes by
+-- what the decision goes by
 unfoldable pub rules : Kind → Settings → Rules
 rules k s = record { enabled = s .enabled; repeat = repeat k s; deadtime = s .deadtime; report = s .report; units = units k }
 
 -- ---- for commands, queries and samples
-unfoldable pub number : Kind → ℕ
-number (Light l) = 4
-number (Occupancy o) = 3
+unfoldable pub sensorType : Kind → ℕ
+sensorType (Light l) = 4
+sensorType (Occupancy o) = 3
 
 unfoldable pub resolution : Kind → ℕ
 resolution (Light l) = l .resolution
@@ -69,5 +69,5 @@ allowing (Light l) allowed = Light l
 allowing (Occupancy o) allowed = Occupancy (occupancyAllowing o allowed)
 
 -- ---- for declarations: type 3 with resolution 2, type 4 with resolution 1 to 24
-unfoldable pub modelled : (number resolution : ℕ) → Bool
-modelled n r = cond (eqb n 4) (leb 1 r && leb r 24) (eqb n 3 && eqb r 2)
+unfoldable pub modelled : (type resolution : ℕ) → Bool
+modelled type r = cond (eqb type 4) (leb 1 r && leb r 24) (eqb type 3 && eqb r 2)

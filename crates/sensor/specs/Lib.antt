@@ -1,6 +1,8 @@
+pub mod Settings
 pub mod Light
 pub mod Occupancy
 pub mod Kind
+pub mod Instance
 pub mod Fresh
 pub mod Tick
 pub mod Marked

@@ -1,12 +1,13 @@
 -- Document 01, "Widths", "Each type carries its own defaults" and "One tick", of the light sensor (type 4; IEC 62386-304).
 -- Assumes nothing.
 use Prim.Native.Nat.{ℕ, _%_, _*_, _+_, _-_, _/_, _^_, max, min}
-use Rattle.gate.specs.declared.Units.{Units}
+use Rattle.sensor.specs.Settings.{noSettings, withDeadtime, withEnabled, withFilter, withHysteresis, withMinimum, withPriority, withReport}
 use Rattle.sensor.specs.declared.light.Band.the-variants.{Between, Nowhere}
 use Rattle.sensor.specs.declared.light.Band.{Band}
 use Rattle.sensor.specs.declared.light.Light.{Light}
 use Rattle.sensor.specs.declared.settings.Sample.{Sample}
 use Rattle.sensor.specs.declared.settings.Settings.{Settings}
+use Rattle.timers.specs.declared.Units.{Units}
 use Rattle.widen.specs.Width as widths
 use lib.Dec.{eqb, leb, ltb}
 use mathlib.Core.Bool.{Bool, cond, true, _&&_, _||_}
@@ -20,7 +21,8 @@ unfoldable pub minimum : (resolution : ℕ) → ℕ
 minimum resolution = min 255 (2 ^ resolution / 100)
 
 abbrev pub lightSettings : (resolution : ℕ) → Settings
-lightSettings resolution = record { report = 30; deadtime = 30; filter = 1; priority = 4; enabled = true; hysteresis = 5; minimum = minimum resolution }
+lightSettings resolution =
+    withReport 30 (withDeadtime 30 (withFilter 1 (withPriority 4 (withEnabled true (withHysteresis 5 (withMinimum (minimum resolution) noSettings))))))
 
 -- before the first sample light counts as status 1
 abbrev pub unready : Sample

@@ -1,10 +1,11 @@
 -- Document 01, "Widths", "Each type carries its own defaults" and "One tick", of the presence-based occupancy sensor (type 3; IEC 62386-303).
 -- Assumes nothing.
 use Prim.Native.Nat.{ℕ, _%_, _+_, _/_}
-use Rattle.gate.specs.declared.Units.{Units}
+use Rattle.sensor.specs.Settings.{noSettings, withDeadtime, withEnabled, withFilter, withPriority, withReport}
 use Rattle.sensor.specs.declared.occupancy.Occupancy.{Occupancy}
 use Rattle.sensor.specs.declared.settings.Sample.{Sample}
 use Rattle.sensor.specs.declared.settings.Settings.{Settings}
+use Rattle.timers.specs.declared.Units.{Units}
 use Rattle.widen.specs.Width as widths
 use lib.Bits.{bitAnd, bitOr}
 use lib.Dec.{eqb, ltb}
@@ -15,7 +16,7 @@ abbrev pub occupancyUnits : Units
 occupancyUnits = record { dead = 1; report = 20 }
 
 abbrev pub occupancySettings : Settings
-occupancySettings = record { report = 20; deadtime = 2; filter = 3; priority = 4; enabled = true; hysteresis = 0; minimum = 0 }
+occupancySettings = withReport 20 (withDeadtime 2 (withFilter 3 (withPriority 4 (withEnabled true noSettings))))
 
 -- before the first sample occupancy counts as status 0, value 0
 abbrev pub still : Sample

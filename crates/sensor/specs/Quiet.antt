@@ -1,7 +1,7 @@
 -- For how many ticks an instance is sure to send nothing, and what it is after them.
 -- Assumes nothing.
 use Prim.Native.Nat.{ℕ, _%_}
-use Rattle.gate.specs.Quiet as gates
+use Rattle.sensor.specs.Instance.{withTimers}
 use Rattle.sensor.specs.Kind.{cause, rules}
 use Rattle.sensor.specs.Tick.{valid}
 use Rattle.sensor.specs.declared.instance.Instance.{Instance}
@@ -13,6 +13,7 @@ use Rattle.sensor.specs.declared.light.Light.{Light}
 use Rattle.sensor.specs.declared.occupancy.Occupancy.{Occupancy}
 use Rattle.sensor.specs.declared.settings.Sample.{Sample}
 use Rattle.sensor.specs.declared.settings.Settings.{Settings}
+use Rattle.timers.specs.Quiet as gates
 use lib.Dec.{eqb}
 use mathlib.Core.Bool.{Bool, cond, false, not, true, _&&_, _||_}
 
@@ -42,10 +43,9 @@ steady x = settled (x .kind) (x .settings) (x .held) && cond (x .failed) (eqb (x
 unfoldable pub quietFor : Instance → ℕ
 quietFor x =
     cond (steady x)
-    (gates.shutFor (rules (x .kind) (x .settings)) (valid x) (x .timers) (cause (x .kind) (x .settings)))
+    (gates.silentFor (rules (x .kind) (x .settings)) (valid x) (x .timers) (cause (x .kind) (x .settings)))
     0
 
 -- the instance after n such ticks
 unfoldable pub rested : Instance → (n : ℕ) → Instance
-rested x n =
-    record { kind = x .kind; settings = x .settings; timers = gates.rested (x .timers) n; held = x .held; failed = x .failed; latch = x .latch }
+rested x n = withTimers (gates.rested (x .timers) n) x

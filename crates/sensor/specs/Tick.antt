@@ -1,11 +1,6 @@
 -- Document 01, "One tick", of one instance.
 -- Assumes nothing.
-use Rattle.gate.specs.Gate.{after, decided}
-use Rattle.gate.specs.Timers.{fallen}
-use Rattle.gate.specs.declared.Gate.the-variants.{Reported, Silent, Triggered}
-use Rattle.gate.specs.declared.Gate.{Gate}
-use Rattle.gate.specs.declared.Rules.{Rules}
-use Rattle.gate.specs.declared.Timers.{Timers}
+use Rattle.sensor.specs.Instance.{withFailed, withHeld, withKind, withTimers}
 use Rattle.sensor.specs.Kind.{cause, information, rules, sent, taken}
 use Rattle.sensor.specs.declared.instance.Instance.{Instance}
 use Rattle.sensor.specs.declared.instance.Sent.the-variants.{Event, Nothing}
@@ -14,22 +9,27 @@ use Rattle.sensor.specs.declared.instance.Ticked.{Ticked}
 use Rattle.sensor.specs.declared.kind.Kind.{Kind}
 use Rattle.sensor.specs.declared.settings.Sample.{Sample}
 use Rattle.sensor.specs.declared.settings.Settings.{Settings}
+use Rattle.timers.specs.Decision.{after, decided}
+use Rattle.timers.specs.Timers.{fallen}
+use Rattle.timers.specs.declared.Decision.the-variants.{Reported, Silent, Triggered}
+use Rattle.timers.specs.declared.Decision.{Decision}
+use Rattle.timers.specs.declared.Rules.{Rules}
+use Rattle.timers.specs.declared.Timers.{Timers}
 use lib.Dec.{eqb}
 use mathlib.Core.Bool.{Bool, false, true}
 
 -- SA only replaces the held sample
 unfoldable pub holding : Instance → Sample → Instance
-holding x sample =
-    record { kind = x .kind; settings = x .settings; timers = x .timers; held = sample; failed = x .failed; latch = x .latch }
+holding x sample = withHeld sample x
 
--- ---- the end of a tick, as the gate said
-unfoldable pub kindAfter : Gate → Kind → Settings → Kind
+-- ---- the end of a tick, as it was decided
+unfoldable pub kindAfter : Decision → Kind → Settings → Kind
 kindAfter Silent k s = k
 kindAfter Triggered k s = sent k s
 kindAfter Reported k s = sent k s
 
 -- priority is 5 if the due report is the only cause, else the instance's priority
-unfoldable pub sentAfter : Gate → Kind → Settings → Sent
+unfoldable pub sentAfter : Decision → Kind → Settings → Sent
 sentAfter Silent k s = Nothing
 sentAfter Triggered k s = Event (s .priority) (information k false)
 sentAfter Reported k s = Event 5 (information k true)
@@ -39,22 +39,14 @@ abbrev pub isEvent : Sent → Bool
 isEvent Nothing = false
 isEvent (Event priority information) = true
 
-unfoldable pub closed : Instance → Kind → Timers → Gate → Ticked
-closed x k t gate =
+unfoldable pub closed : Instance → Kind → Timers → Decision → Ticked
+closed x k t decision =
     record {
-      instance =
-          record {
-            kind = kindAfter gate k (x .settings);
-            settings = x .settings;
-            timers = t;
-            held = x .held;
-            failed = eqb (x .held .status) 2;
-            latch = x .latch;
-          };
-      sent = sentAfter gate k (x .settings);
+      instance = withKind (kindAfter decision k (x .settings)) (withTimers t (withFailed (eqb (x .held .status) 2) x));
+      sent = sentAfter decision k (x .settings);
     }
 
--- ---- a tick: the timers fall, the held sample is taken, the gate decides
+-- ---- a tick: the timers fall, the held sample is taken, and whether an event goes out is decided
 -- the held sample is valid
 abbrev pub valid : Instance → Bool
 valid x = eqb (x .held .status) 0
@@ -63,12 +55,12 @@ valid x = eqb (x .held .status) 0
 abbrev pub takenKind : Instance → Kind
 takenKind x = taken (x .kind) (x .settings) (x .held)
 
--- what the gate goes by at the instance's next tick, and what it says
+-- what the decision at the instance's next tick goes by, and the decision
 abbrev pub rulesAt : Instance → Rules
 rulesAt x = rules (takenKind x) (x .settings)
 
-abbrev pub gateAt : Instance → Gate
-gateAt x = decided (rulesAt x) (valid x) (fallen (x .timers)) (cause (takenKind x) (x .settings))
+abbrev pub decisionAt : Instance → Decision
+decisionAt x = decided (rulesAt x) (valid x) (fallen (x .timers)) (cause (takenKind x) (x .settings))
 
 unfoldable pub ticked : Instance → Ticked
-ticked x = closed x (takenKind x) (after (gateAt x) (rulesAt x) (fallen (x .timers))) (gateAt x)
+ticked x = closed x (takenKind x) (after (decisionAt x) (rulesAt x) (fallen (x .timers))) (decisionAt x)

@@ -4,9 +4,9 @@ use crate::light::Light;
 use crate::occupancy::Occupancy;
 use crate::settings::Sample;
 use crate::settings::Settings;
-use gate::Gate;
-use gate::Report;
-use gate::Timers;
+use timers::Decision;
+use timers::Report;
+use timers::Timers;
 ghost use Rattle.sensor.specs.Fresh.{declared, fresh};
 ghost use Rattle.sensor.specs.Quiet.{quietFor, rested, steady};
 ghost use Rattle.sensor.specs.Tick.{closed, holding, kindAfter, sentAfter, ticked};
@@ -58,11 +58,11 @@ impl Instance {
         }
     }
 
-    // An instance of the type with that number; light for any number that is not occupancy's.
-    pub fn declared(number: u8, resolution: u8) -> Instance
-        ensures { λ r. ⌜ r ≡ declared number resolution ⌝ }
+    // An instance of that type; light for any type that is not occupancy.
+    pub fn declared(sensor_type: u8, resolution: u8) -> Instance
+        ensures { λ r. ⌜ r ≡ declared «sensor_type» resolution ⌝ }
     {
-        if number == Occupancy::TYPE {
+        if sensor_type == Occupancy::TYPE {
             Occupancy::fresh()
         } else {
             Light::fresh(resolution)
@@ -91,25 +91,25 @@ impl Instance {
         let rules = kind.rules(settings);
         let fell = running.fallen();
         let cause = kind.cause(settings);
-        let gate = Gate::decided(rules, held.status == 0, fell, cause);
-        let timers = fell.after(gate, rules);
-        self.closed(kind, timers, gate)
+        let decision = Decision::decided(rules, held.status == 0, fell, cause);
+        let timers = fell.after(decision, rules);
+        self.closed(kind, timers, decision)
     }
 
-    // The end of a tick, as the gate said.
-    fn closed(self, kind: Kind, timers: Timers, gate: Gate) -> Ticked
-        ensures { λ r. ⌜ r ≡ closed self kind timers gate ⌝ }
+    // The end of a tick, as it was decided.
+    fn closed(self, kind: Kind, timers: Timers, decision: Decision) -> Ticked
+        ensures { λ r. ⌜ r ≡ closed self kind timers decision ⌝ }
     {
         let settings = self.settings;
         let held = self.held;
-        let next = kind_after(gate, kind, settings);
+        let next = kind_after(decision, kind, settings);
         let instance = Instance {
             kind: next,
             timers,
             failed: held.status == 2,
             ..self
         };
-        let sent = sent_after(gate, kind, settings);
+        let sent = sent_after(decision, kind, settings);
         Ticked { instance, sent }
     }
 
@@ -123,7 +123,7 @@ impl Instance {
             let held = self.held;
             let rules = kind.rules(settings);
             let cause = kind.cause(settings);
-            Gate::shut_for(rules, held.status == 0, self.timers, cause)
+            Decision::silent_for(rules, held.status == 0, self.timers, cause)
         } else {
             0
         }
@@ -148,27 +148,27 @@ impl Instance {
     }
 }
 
-fn kind_after(gate: Gate, kind: Kind, settings: Settings) -> Kind
-    ensures { λ r. ⌜ r ≡ kindAfter gate kind settings ⌝ }
+fn kind_after(decision: Decision, kind: Kind, settings: Settings) -> Kind
+    ensures { λ r. ⌜ r ≡ kindAfter decision kind settings ⌝ }
 {
-    match gate {
-        Gate::Silent => kind,
-        Gate::Triggered => kind.sent(settings),
-        Gate::Reported => kind.sent(settings),
+    match decision {
+        Decision::Silent => kind,
+        Decision::Triggered => kind.sent(settings),
+        Decision::Reported => kind.sent(settings),
     }
 }
 
 // Priority 5 where the due report is the only cause.
-fn sent_after(gate: Gate, kind: Kind, settings: Settings) -> Sent
-    ensures { λ r. ⌜ r ≡ sentAfter gate kind settings ⌝ }
+fn sent_after(decision: Decision, kind: Kind, settings: Settings) -> Sent
+    ensures { λ r. ⌜ r ≡ sentAfter decision kind settings ⌝ }
 {
-    match gate {
-        Gate::Silent => Sent::Nothing,
-        Gate::Triggered => Sent::Event {
+    match decision {
+        Decision::Silent => Sent::Nothing,
+        Decision::Triggered => Sent::Event {
             priority: settings.priority,
             information: kind.information(false),
         },
-        Gate::Reported => Sent::Event {
+        Decision::Reported => Sent::Event {
             priority: 5,
             information: kind.information(true),
         },

@@ -3,9 +3,9 @@ use crate::light::Light;
 use crate::occupancy::Occupancy;
 use crate::settings::Sample;
 use crate::settings::Settings;
-use gate::Rules;
-use gate::Units;
-ghost use Rattle.sensor.specs.Kind.{allowing, allows, cause, information, input, kept, modelled, number, repeat, resolution, rules, sent, taken, units};
+use timers::Rules;
+use timers::Units;
+ghost use Rattle.sensor.specs.Kind.{allowing, allows, cause, information, input, kept, modelled, repeat, resolution, rules, sensorType, sent, taken, units};
 ghost use Rattle.sensor.specs.Quiet.{settled};
 ghost use mathlib.Core.Path.{_≡_};
 
@@ -102,7 +102,7 @@ impl Kind {
         }
     }
 
-    // What the gate goes by.
+    // What the decision goes by.
     pub fn rules(self, settings: Settings) -> Rules
         ensures { λ r. ⌜ r ≡ rules self settings ⌝ }
     {
@@ -115,9 +115,9 @@ impl Kind {
         }
     }
 
-    // The type's number.
-    pub fn number(self) -> u8
-        ensures { λ r. ⌜ r ≡ number self ⌝ }
+    // The type, as a number.
+    pub fn sensor_type(self) -> u8
+        ensures { λ r. ⌜ r ≡ sensorType self ⌝ }
     {
         match self {
             Kind::Light(_) => Light::TYPE,
@@ -186,12 +186,12 @@ impl Kind {
 }
 
 // Type 3 with resolution 2, or type 4 with 1 to 24.
-pub fn modelled(number: u8, resolution: u8) -> bool
-    ensures { λ r. ⌜ r ≡ modelled number resolution ⌝ }
+pub fn modelled(sensor_type: u8, resolution: u8) -> bool
+    ensures { λ r. ⌜ r ≡ modelled «sensor_type» resolution ⌝ }
 {
-    if number == Light::TYPE {
+    if sensor_type == Light::TYPE {
         (1 <= resolution) & (resolution <= 24)
     } else {
-        (number == Occupancy::TYPE) & (resolution == Occupancy::RESOLUTION)
+        (sensor_type == Occupancy::TYPE) & (resolution == Occupancy::RESOLUTION)
     }
 }

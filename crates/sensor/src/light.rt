@@ -3,7 +3,7 @@ use crate::instance::Instance;
 use crate::kind::Kind;
 use crate::settings::Sample;
 use crate::settings::Settings;
-use gate::Units;
+use timers::Units;
 ghost use Prim.Native.Nat.{_-_, _<_, _^_};
 ghost use Rattle.sensor.specs.Fresh.{lightFresh};
 ghost use Rattle.sensor.specs.Light.{lightAllows, lightCause, lightInformation, lightInput, lightRepeat, lightSent, lightTaken, minimum, moved, outside, width};
@@ -66,6 +66,7 @@ impl Light {
     pub fn fresh(resolution: u8) -> Instance
         ensures { λ r. ⌜ r ≡ lightFresh resolution ⌝ }
     {
+        let none = Settings::NONE;
         let settings = Settings {
             report: Light::REPORT,
             deadtime: Light::DEADTIME,
@@ -74,6 +75,7 @@ impl Light {
             enabled: true,
             hysteresis: Light::HYSTERESIS,
             minimum: minimum(resolution),
+            ..none
         };
         let unready = Sample {
             status: 1,

@@ -3,7 +3,7 @@ use crate::instance::Instance;
 use crate::kind::Kind;
 use crate::settings::Sample;
 use crate::settings::Settings;
-use gate::Units;
+use timers::Units;
 ghost use Rattle.sensor.specs.Fresh.{occupancyFresh};
 ghost use Rattle.sensor.specs.Occupancy.{change, occupancyAllowing, occupancyAllows, occupancyCause, occupancyInformation, occupancyInput, occupancyRepeat, occupancySent, occupancyTaken, triggers, waits};
 ghost use Rattle.sensor.specs.Quiet.{occupancySettled};
@@ -48,14 +48,14 @@ impl Occupancy {
     pub fn fresh() -> Instance
         ensures { λ r. ⌜ r ≡ occupancyFresh ⌝ }
     {
+        let none = Settings::NONE;
         let settings = Settings {
             report: Occupancy::REPORT,
             deadtime: Occupancy::DEADTIME,
             filter: Occupancy::FILTER,
             priority: Occupancy::PRIORITY,
             enabled: true,
-            hysteresis: 0,
-            minimum: 0,
+            ..none
         };
         let still = Sample {
             status: 0,

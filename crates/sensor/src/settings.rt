@@ -11,6 +11,19 @@ pub struct Settings {
     pub minimum: u8,
 }
 
+impl Settings {
+    // The block of a type that has no setting.
+    pub const NONE: Settings = Settings {
+        report: 0,
+        deadtime: 0,
+        filter: 0,
+        priority: 0,
+        enabled: false,
+        hysteresis: 0,
+        minimum: 0,
+    };
+}
+
 // What the sensor measured. Status 0 is valid, 1 not ready, 2 physical failure.
 pub struct Sample {
     pub status: u8,

@@ -1,26 +1,20 @@
 -- The bounds of a reading: what is written has room, and the offset lies in the session.
 -- Assumes nothing.
 use Prim.Native.Nat.{ℕ, suc, zero, _+_, _-_, _≤_}
-use Rattle.bench.specs.Device.{allowed, known}
-use Rattle.bench.specs.Frame.{frameLog}
-use Rattle.bench.specs.Tick.{tickLog, tickModel}
-use Rattle.bench.specs.declared.model.Model.{Model}
+use Rattle.device.specs.Frame.{frameLog}
+use Rattle.device.specs.declared.model.Model.{Model}
+use Rattle.judging.proofs.Sizes.{asked-size}
+use Rattle.judging.specs.Asked.{asked, sizeOf}
+use Rattle.judging.specs.declared.asked.Asked.the-variants.{Declare, Frame, Hold, Refused, Ticks}
+use Rattle.judging.specs.declared.asked.Asked.{Asked}
 use Rattle.record.proofs.Log.{bytes-append}
 use Rattle.record.specs.Log.{Logged, bytesOf}
-use Rattle.sensor.specs.Kind.{modelled}
 use Rattle.session.proofs.Laws.{ticking-refused, ticking-taken}
-use Rattle.session.specs.Asked.{asked, askedBy, byte, declareAsked, frameAsked, markOf, sampleAsked, sampleIn, sizeOf, ticksAsked, word}
-use Rattle.session.specs.Session.{Step, fits, outcome, reading, refused, session, step, taken, ticking, told}
-use Rattle.session.specs.declared.asked.Asked.the-variants.{Declare, Frame, Hold, Refused, Ticks}
-use Rattle.session.specs.declared.asked.Asked.{Asked}
-use Rattle.session.specs.declared.asked.Mark.the-variants.{Bus, Declaration, Measurement, Time, Unknown}
-use Rattle.session.specs.declared.asked.Mark.{Mark}
-use Rattle.session.specs.declared.asked.Refusal.the-variants.{BadSample, Cut, LateOrSkipped, NoSuchSensor, NoTicks, TimeOver, Undeclared}
-use Rattle.session.specs.declared.asked.Refusal.{Refusal}
-use borrow.Author.Tests.{leb-true, ltb-false}
-use lib.Dec.{eqb, ltb}
+use Rattle.session.specs.Session.{Step, fits, outcome, reading, refused, session, step, taken, ticking, forC}
+use Rattle.ticks.specs.Tick.{tickLog, tickModel}
+use borrow.Author.Tests.{leb-true}
 use lib.ListN.{drop, length, length-append, length-drop}
-use mathlib.Core.Bool.{Bool, cond, false, not, true, _&&_, _||_}
+use mathlib.Core.Bool.{Bool, false, true}
 use mathlib.Core.List.{List, [], _++_, _∷_}
 use mathlib.Core.Path.{refl, _≡_}
 use native.Mathlib.Omega.{arith}
@@ -53,7 +47,7 @@ ticking-within (suc n) done room m log h =
 step-within : (a : Asked) (room : ℕ) (m : Model) (log : List Logged) → length (bytesOf log) ≤ room → Within room (step a room m log)
 unfolding step
 step-within (Refused why) room m log h = h
-step-within (Declare number resolution) room m log h = h
+step-within (Declare type resolution) room m log h = h
 step-within (Hold i sample) room m log h = h
 step-within (Frame x y z) room m log h = by (fits room log (frameLog m x y z)) refl
   where
@@ -90,53 +84,11 @@ pub outcome-within : (m : Model) (input : List ℕ) (room : ℕ) → outcome (se
 unfolding outcome
 outcome-within m input room = session-within m input room
 
-pub told-within : (m : Model) (input : List ℕ) (room : ℕ) → told (session m input room) .written ≤ room
-unfolding told
-told-within m input room = session-within m input room
+pub for-c-within : (m : Model) (input : List ℕ) (room : ℕ) → forC (session m input room) .written ≤ room
+unfolding forC
+for-c-within m input room = session-within m input room
 
 -- ---- the offset
--- a record that is cut has no size, whatever number it is given; another is whole
-whole-size : (n k : ℕ) (why : Refusal) (y : Asked) → (k ≤ n → sizeOf y ≤ n) → sizeOf (cond (ltb n k) (Refused why) y) ≤ n
-unfolding sizeOf
-whole-size n k why y h = by (ltb n k) refl
-  where
-    by : (b : Bool) → ltb n k ≡ b → sizeOf (cond (ltb n k) (Refused why) y) ≤ n
-    by true e = rw e (omega arith)
-    by false e = rw e (h (ltb-false _ _ e))
-
--- what two tests leave of a size
-two-tests : (p q : Bool) (x y z : Asked) (n : ℕ) → sizeOf x ≤ n → sizeOf y ≤ n → sizeOf z ≤ n → sizeOf (cond p x (cond q y z)) ≤ n
-two-tests true q x y z n hx hy hz = hx
-two-tests false true x y z n hx hy hz = hy
-two-tests false false x y z n hx hy hz = hz
-
-both-tests : (p q : Bool) (x y z : Asked) (n : ℕ) → sizeOf x ≤ n → sizeOf y ≤ n → sizeOf z ≤ n → sizeOf (cond p (cond q x y) z) ≤ n
-both-tests true true x y z n hx hy hz = hx
-both-tests true false x y z n hx hy hz = hy
-both-tests false q x y z n hx hy hz = hz
-
-by-size : (mark : Mark) (rest : List ℕ) (m : Model) → sizeOf (askedBy mark rest m) ≤ length rest
-unfolding askedBy declareAsked sampleAsked frameAsked ticksAsked sizeOf
-by-size Unknown rest m = omega arith
-by-size Declaration rest m =
-    whole-size _ 5 _ _ (λ h.
-    two-tests (m .running || not (eqb (byte rest 2) (m .count))) (ltb (byte rest 2) 16 && modelled (byte rest 3) (byte rest 4))
-    (Refused LateOrSkipped) (Declare (byte rest 3) (byte rest 4)) (Refused NoSuchSensor) _ (omega arith) h (omega arith))
-by-size Measurement rest m =
-    whole-size _ 7 _ _ (λ h.
-    both-tests (known m (byte rest 2)) (allowed m (byte rest 2) (sampleIn rest))
-    (Hold (byte rest 2) (sampleIn rest)) (Refused BadSample) (Refused Undeclared) _ h (omega arith) (omega arith))
-by-size Bus rest m = whole-size _ 5 _ _ (λ h. h)
-by-size Time rest m =
-    whole-size _ 4 _ _ (λ h.
-    two-tests (eqb (word rest 2) 0) (ltb (4294967295 - m .tick) (word rest 2))
-    (Refused NoTicks) (Refused TimeOver) (Ticks (word rest 2)) _ (omega arith) (omega arith) h)
-
--- a record that is taken is whole
-pub asked-size : (rest : List ℕ) (m : Model) → sizeOf (asked rest m) ≤ length rest
-unfolding asked
-asked-size rest m = whole-size (length rest) 2 Cut (askedBy (markOf (word rest 0)) rest m) (λ h. by-size (markOf (word rest 0)) rest m)
-
 reading-offset : (most : ℕ) (rest : List ℕ) (room at : ℕ) (m : Model) (log : List Logged) → reading most rest room at m log .offset ≤ at + length rest
 unfolding reading
 reading-offset zero rest room at m log = omega arith

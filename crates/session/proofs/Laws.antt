@@ -1,15 +1,15 @@
 -- How a reading goes on by one record, and a TK by one tick.
 -- Assumes nothing.
 use Prim.Native.Nat.{ℕ, zero, suc, _+_, _<_}
-use Rattle.bench.specs.Tick.{tickLog, tickModel}
-use Rattle.bench.specs.declared.model.Model.{Model}
+use Rattle.device.specs.declared.model.Model.{Model}
+use Rattle.judging.specs.Asked.{asked, sizeOf}
+use Rattle.judging.specs.Refusals.{numberOf}
+use Rattle.judging.specs.declared.asked.Asked.{Asked}
+use Rattle.judging.specs.declared.asked.Refusal.the-variants.{Full}
+use Rattle.judging.specs.declared.asked.Refusal.{Refusal}
 use Rattle.record.specs.Log.{Logged}
-use Rattle.session.specs.Asked.{asked, sizeOf}
-use Rattle.session.specs.Refusals.{numberOf}
 use Rattle.session.specs.Session.{fits, reading, refused, step, taken, ticking}
-use Rattle.session.specs.declared.asked.Asked.{Asked}
-use Rattle.session.specs.declared.asked.Refusal.the-variants.{Full}
-use Rattle.session.specs.declared.asked.Refusal.{Refusal}
+use Rattle.ticks.specs.Tick.{tickLog, tickModel}
 use lib.ListN.{drop, length}
 use mathlib.Core.Bool.{false, true}
 use mathlib.Core.List.{List, [], _++_, _∷_}

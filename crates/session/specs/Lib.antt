@@ -1,3 +1,1 @@
-pub mod Refusals
-pub mod Asked
 pub mod Session

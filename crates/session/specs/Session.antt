@@ -2,19 +2,19 @@
 -- that is refused, even inside a tick count.
 -- Assumes nothing.
 use Prim.Native.Nat.{ℕ, zero, suc, _+_, _-_}
-use Rattle.bench.specs.Device.{declared, held}
-use Rattle.bench.specs.Frame.{frameLog, frameModel}
-use Rattle.bench.specs.Tick.{tickLog, tickModel}
-use Rattle.bench.specs.declared.model.Model.{Model}
+use Rattle.device.specs.Device.{declaredModel, heldModel}
+use Rattle.device.specs.Frame.{frameLog, frameModel}
+use Rattle.device.specs.declared.model.Model.{Model}
+use Rattle.judging.specs.Asked.{asked, sizeOf}
+use Rattle.judging.specs.Refusals.{numberOf}
+use Rattle.judging.specs.declared.asked.Asked.the-variants.{Declare, Frame, Hold, Refused, Ticks}
+use Rattle.judging.specs.declared.asked.Asked.{Asked}
+use Rattle.judging.specs.declared.asked.Refusal.the-variants.{Full}
+use Rattle.judging.specs.declared.asked.Refusal.{Refusal}
 use Rattle.record.specs.Log.{Logged, bytesOf}
-use Rattle.session.specs.Asked.{asked, sizeOf}
-use Rattle.session.specs.Refusals.{numberOf}
-use Rattle.session.specs.declared.asked.Asked.the-variants.{Declare, Frame, Hold, Refused, Ticks}
-use Rattle.session.specs.declared.asked.Asked.{Asked}
-use Rattle.session.specs.declared.asked.Refusal.the-variants.{Full}
-use Rattle.session.specs.declared.asked.Refusal.{Refusal}
 use Rattle.session.specs.declared.reading.Outcome.{Outcome}
 use Rattle.session.specs.declared.reading.Reading.{Reading}
+use Rattle.ticks.specs.Tick.{tickLog, tickModel}
 use lib.Dec.{leb}
 use lib.ListN.{drop, length}
 use mathlib.Core.Bool.{Bool, false, true}
@@ -41,8 +41,8 @@ ticking (suc n) done room m log =
 -- what is asked for is done
 unfoldable pub step : Asked → (room : ℕ) → Model → List Logged → Step
 step (Refused why) room m log = refused why 0 m log
-step (Declare number resolution) room m log = taken (declared m number resolution) log
-step (Hold i sample) room m log = taken (held m i sample) log
+step (Declare type resolution) room m log = taken (declaredModel m type resolution) log
+step (Hold i sample) room m log = taken (heldModel m i sample) log
 step (Frame first second third) room m log =
     elim (fits room log (frameLog m first second third)) [
       | true ↦ taken (frameModel m first second third) (log ++ frameLog m first second third)
@@ -76,5 +76,5 @@ session m input room = reading (length input) input room 0 m []
 unfoldable pub outcome : End → Outcome
 outcome e = record { model = e .model; number = e .number; offset = e .offset; written = length (bytesOf (e .log)); ticks = e .ticks }
 
-unfoldable pub told : End → Reading
-told e = record { number = e .number; offset = e .offset; written = length (bytesOf (e .log)); ticks = e .ticks }
+unfoldable pub forC : End → Reading
+forC e = record { number = e .number; offset = e .offset; written = length (bytesOf (e .log)); ticks = e .ticks }

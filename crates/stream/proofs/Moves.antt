@@ -2,10 +2,11 @@
 -- Assumes nothing.
 use Prim.Native.Nat.{ℕ, suc, _+_, _-_, _<_, _≤_}
 use Rattle.record.proofs.Laws.{put-front, put-nothing}
+use Rattle.record.specs.Marks.{ticks}
+use Rattle.record.specs.Numbers.{word}
 use Rattle.record.specs.Put.{put}
-use Rattle.session.specs.Asked.{word}
 use Rattle.session.specs.Session.{End}
-use Rattle.stream.specs.Stream.{remaining, ticks, unread}
+use Rattle.stream.specs.Stream.{remaining, unread}
 use borrow.Author.Tests.{le-ltb, lt-ltb, ne-eqb}
 use lib.Dec.{eqb, ltb}
 use lib.ListN.{drop, getD, length, length-drop, set, take}

@@ -1,7 +1,7 @@
 -- What a step comes to, from what each of its calls comes to; and its bounds.
 -- Assumes nothing.
 use Prim.Native.Nat.{ℕ, _%_, _+_, _-_, _^_, _≤_, min}
-use Rattle.bench.specs.declared.model.Model.{Model}
+use Rattle.device.specs.declared.model.Model.{Model}
 use Rattle.record.proofs.Laws.{put-front}
 use Rattle.record.specs.Log.{bytesOf}
 use Rattle.record.specs.Put.{put}
@@ -9,7 +9,7 @@ use Rattle.session.proofs.Bounds.{session-offset, session-within}
 use Rattle.session.specs.Session.{outcome, session}
 use Rattle.session.specs.declared.reading.Outcome.{Outcome}
 use Rattle.stream.proofs.Moves.{unread-long}
-use Rattle.stream.specs.Stream.{counted, ended, held, inputAfter, outputAfter, progressed, remaining, stepped, unread}
+use Rattle.stream.specs.Stream.{recordsIn, ended, held, inputAfter, outputAfter, progressed, remaining, stepped, unread}
 use Rattle.stream.specs.declared.Progress.{Progress}
 use Rattle.stream.specs.declared.Stepped.{Stepped}
 use lib.ListN.{drop, length, length-take, take}
@@ -42,18 +42,18 @@ module _ (p : Progress) (came : ℕ) (input output : List ℕ) {end : ℕ} {o : 
   is-ended = is-read ∙ ap (λ (l : List ℕ). outcome (session (p .model) l (length output))) is-lent
 
   -- the three parts of a step's promise
-  pub step-told : {n left records passed : ℕ} → n ≡ counted (take (o .offset - 0) input) → left ≡ end - o .offset
+  pub step-comes : {n left records passed : ℕ} → n ≡ recordsIn (take (o .offset - 0) input) → left ≡ end - o .offset
       → records ≡ (p .records + n) % 2 ^ 64 → passed ≡ (p .passed + o .offset) % 2 ^ 64
       → _≡_ {A = Stepped} (record { progress = record { model = o .model; unread = left; number = o .number; records = records; passed = passed }; written = o .written }) (stepped p came input output)
   unfolding stepped progressed outcome
-  step-told {n} {left} {records} {passed} is-n is-left is-records is-passed =
+  step-comes {n} {left} {records} {passed} is-n is-left is-records is-passed =
       let e = ended p came input output in
       let at : o .offset ≡ e .offset = ap (λ (x : Outcome). x .offset) is-ended in
       let inside : e .offset ≤ p .unread + came = omega (arith, within (p .model) end input (length output) is-read) in
-      let taken : n ≡ counted (take (e .offset) (held p came input)) =
-      is-n ∙ ap (λ (k : ℕ). counted (take k input)) (sub-zero (o .offset) ∙ at) ∙ ap counted (sym (take-take (e .offset) (p .unread + came) input inside)) in
+      let taken : n ≡ recordsIn (take (e .offset) (held p came input)) =
+      is-n ∙ ap (λ (k : ℕ). recordsIn (take k input)) (sub-zero (o .offset) ∙ at) ∙ ap recordsIn (sym (take-take (e .offset) (p .unread + came) input inside)) in
       let rest : left ≡ length (held p came input) - e .offset = omega (arith, length-take (p .unread + came) input) in
-      let counts : records ≡ (p .records + counted (take (e .offset) (held p came input))) % 2 ^ 64 = is-records ∙ ap (λ (k : ℕ). (p .records + k) % 2 ^ 64) taken in
+      let counts : records ≡ (p .records + recordsIn (take (e .offset) (held p came input))) % 2 ^ 64 = is-records ∙ ap (λ (k : ℕ). (p .records + k) % 2 ^ 64) taken in
       let passes : passed ≡ (p .passed + e .offset) % 2 ^ 64 = is-passed ∙ ap (λ (k : ℕ). (p .passed + k) % 2 ^ 64) at in
       λ i.
       record {

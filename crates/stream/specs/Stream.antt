@@ -1,14 +1,15 @@
 -- Document 01, "The bench model": a session read in pieces. After number 2 it goes on with more input, after 9 with an emptied output
 -- and, inside a TK, a TK of the ticks that remain.
 -- Assumes nothing.
-use Prim.Native.Nat.{ℕ, zero, suc, _%_, _+_, _-_, _/_, _^_, _≤_, min}
-use Rattle.bench.specs.Device.{fresh}
+use Prim.Native.Nat.{ℕ, zero, suc, _%_, _+_, _-_, _^_, _≤_, min}
+use Rattle.device.specs.Device.{fresh}
 use Rattle.record.specs.Log.{bytesOf}
+use Rattle.record.specs.Marks.{markOf, markSize, ticks}
+use Rattle.record.specs.Numbers.{word}
 use Rattle.record.specs.Put.{put}
-use Rattle.session.specs.Asked.{markOf, word}
+use Rattle.record.specs.declared.marks.Mark.the-variants.{Time}
+use Rattle.record.specs.declared.marks.Mark.{Mark}
 use Rattle.session.specs.Session.{End, session}
-use Rattle.session.specs.declared.asked.Mark.the-variants.{Bus, Declaration, Measurement, Time, Unknown}
-use Rattle.session.specs.declared.asked.Mark.{Mark}
 use Rattle.stream.specs.declared.Next.the-variants.{EmptiedOutput, MoreInput, Over}
 use Rattle.stream.specs.declared.Next.{Next}
 use Rattle.stream.specs.declared.Progress.{Progress}
@@ -34,13 +35,9 @@ unfoldable pub goesOn : (number : ℕ) → (ended : Bool) → Bool
 goesOn number ended = goesBy (nextAfter number) ended
 
 -- ---- what is left unread
--- a TK of n ticks
-abbrev pub ticks : (n : ℕ) → List ℕ
-ticks n = 0x54 ∷ 0x4B ∷ n / 256 ∷ n % 256 ∷ []
-
 -- what begins with a record of which `done` ticks were carried out: for none it stands, else a TK of the ticks that remain takes its place
 unfoldable pub remaining : (done : ℕ) → (rest : List ℕ) → List ℕ
-remaining done rest = cond (eqb done 0) rest (cond (ltb (length rest) 4) rest (ticks (word rest 2 - done) ++ drop 4 rest))
+remaining done rest = cond (eqb done 0) rest (cond (ltb (length rest) (markSize Time)) rest (ticks (word rest 2 - done) ++ drop (markSize Time) rest))
 
 -- the part of the input that the next step begins with
 unfoldable pub unread : End → (input : List ℕ) → List ℕ
@@ -49,24 +46,20 @@ unread e input = remaining (e .ticks) (drop (e .offset) input)
 -- ---- the records in bytes that were taken
 -- a record's size by its mark; what no known mark begins goes for one record, all of it
 unfoldable pub sizeBy : Mark → (all : ℕ) → ℕ
-sizeBy Unknown all = all
-sizeBy Declaration all = 5
-sizeBy Measurement all = 7
-sizeBy Bus all = 5
-sizeBy Time all = 4
+sizeBy mark all = cond (eqb (markSize mark) 0) all (markSize mark)
 
 -- the size of the record at the front, not more than there is
 unfoldable pub sizeAt : List ℕ → ℕ
 sizeAt rest = cond (ltb (length rest) 2) (length rest) (min (sizeBy (markOf (word rest 0)) (length rest)) (length rest))
 
 -- at most so many of them
-unfoldable pub countedIn : (most : ℕ) → List ℕ → ℕ
-countedIn zero bytes = 0
-countedIn (suc most) [] = 0
-countedIn (suc most) (b ∷ bytes) = 1 + countedIn most (drop (sizeAt (b ∷ bytes)) (b ∷ bytes))
+unfoldable pub recordsUpTo : (most : ℕ) → List ℕ → ℕ
+recordsUpTo zero bytes = 0
+recordsUpTo (suc most) [] = 0
+recordsUpTo (suc most) (b ∷ bytes) = 1 + recordsUpTo most (drop (sizeAt (b ∷ bytes)) (b ∷ bytes))
 
-unfoldable pub counted : List ℕ → ℕ
-counted bytes = countedIn (length bytes) bytes
+unfoldable pub recordsIn : List ℕ → ℕ
+recordsIn bytes = recordsUpTo (length bytes) bytes
 
 -- ---- one step
 -- at the start: a fresh model, and nothing read
@@ -88,7 +81,7 @@ progressed p e held =
       model = e .model;
       unread = length held - e .offset;
       number = e .number;
-      records = (p .records + counted (take (e .offset) held)) % 2 ^ 64;
+      records = (p .records + recordsIn (take (e .offset) held)) % 2 ^ 64;
       passed = (p .passed + e .offset) % 2 ^ 64;
     }
 

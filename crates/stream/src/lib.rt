@@ -1,10 +1,11 @@
 // Reading a session in pieces, through buffers that are shorter than it (document 01, "The bench model"): one step reads what is held,
 // keeps what is unread at the front of the input buffer, and its number says what must come before the next.
-use bench::Model;
-ghost use Prim.Native.Nat.{_*_, _+_, _-_, _≤_, min};
+use device::Model;
+use record::Mark;
+ghost use Prim.Native.Nat.{_+_, _-_, _≤_, min};
+ghost use Rattle.record.specs.Marks.{markOf};
 ghost use Rattle.record.specs.Put.{put};
-ghost use Rattle.session.specs.Asked.{markOf};
-ghost use Rattle.stream.specs.Stream.{begun, counted, goesOn, inputAfter, nextAfter, outputAfter, remaining, sizeAt, sizeBy, stepped};
+ghost use Rattle.stream.specs.Stream.{begun, goesOn, inputAfter, nextAfter, outputAfter, recordsIn, remaining, sizeAt, sizeBy, stepped};
 ghost use lib.ListN.{length};
 ghost use lib.Seq.{slice};
 ghost use mathlib.Core.Path.{_≡_};
@@ -36,7 +37,7 @@ pub struct Stepped {
 pub fn begin() -> Progress
     ensures { λ r. ⌜ r ≡ begun ⌝ }
 {
-    let model = bench::fresh();
+    let model = device::fresh();
     Progress {
         model,
         unread: 0,
@@ -78,7 +79,7 @@ pub fn step(p: Progress, came: usize, input: &mut [u8], output: &mut [u8]) -> St
     let end = held(p.unread, came, input.len());
     let o = session::read(p.model, &input[0..end], output);
     let at = o.offset;
-    let taken = count(&input[0..at]);
+    let taken = records_in(&input[0..at]);
     keep(input, at, end, o.ticks);
     let left = end - at;
     let model = o.model;
@@ -107,8 +108,8 @@ fn held(unread: usize, came: usize, all: usize) -> usize
 }
 
 // The records in bytes that were taken.
-fn count(bytes: &[u8]) -> u64
-    ensures { λ r. ⌜ r ≡ counted (now (bytes .entry)) ⌝ }
+fn records_in(bytes: &[u8]) -> u64
+    ensures { λ r. ⌜ r ≡ recordsIn (now (bytes .entry)) ⌝ }
 {
     let mut at: usize = 0;
     let mut n: u64 = 0;
@@ -128,21 +129,16 @@ fn size_at(rest: &[u8]) -> usize
     if all < 2 {
         return all;
     }
-    let size = size_by(word(rest[0], rest[1]), all);
+    let size = size_by(record::word(rest[0], rest[1]), all);
     least(size, all)
 }
 
-// IN, SA, FR, TK and their sizes.
+// By its mark; what no known mark begins goes for one record, all of it.
 fn size_by(letters: u16, all: usize) -> usize
     ensures { λ r. ⌜ r ≡ sizeBy (markOf letters) all ⌝ }
 {
-    match letters {
-        0x494E => 5,
-        0x5341 => 7,
-        0x4652 => 5,
-        0x544B => 4,
-        _ => all,
-    }
+    let size = record::mark_size(record::mark_of(letters));
+    if size == 0 { all } else { size }
 }
 
 // Keeps what is unread, from `at` up to `end`: it goes to the front. Of its first record `done` ticks were carried out.
@@ -175,21 +171,14 @@ fn shorten(rest: &mut [u8], done: u16)
     if done == 0 {
         return;
     }
-    if rest.len() < 4 {
+    if rest.len() < Mark::TK_SIZE {
         return;
     }
-    let left = less(word(rest[2], rest[3]), done);
-    rest[0] = b'T';
-    rest[1] = b'K';
+    let left = less(record::word(rest[2], rest[3]), done);
+    rest[0] = (Mark::TK / 256) as u8;
+    rest[1] = (Mark::TK % 256) as u8;
     rest[2] = (left / 256) as u8;
     rest[3] = (left % 256) as u8;
-}
-
-// Two bytes, most significant first.
-fn word(high: u8, low: u8) -> u16
-    ensures { λ r. ⌜ r ≡ high * 256 + low ⌝ }
-{
-    (high as u16) * 256 + (low as u16)
 }
 
 // The ticks of n that remain.

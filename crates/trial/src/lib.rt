@@ -1,18 +1,18 @@
 // For the comparison with the second implementation alone: a session read from a later tick number than 0, since the last number,
 // 4,294,967,295, is out of a test's reach.
-use bench::Model;
+use device::Model;
 use session::Reading;
 ghost use Rattle.record.specs.Log.{bytesOf};
 ghost use Rattle.record.specs.Put.{put};
-ghost use Rattle.session.specs.Session.{session, told};
+ghost use Rattle.session.specs.Session.{forC, session};
 ghost use Rattle.trial.specs.Later.{later};
 ghost use lib.ListN.{length};
 ghost use mathlib.Core.Path.{_≡_};
 
 #[no_mangle]
 pub extern "C" fn trial_session(tick: u32, input: &[u8], log: &mut [u8]) -> Reading
-    ensures { λ r. ⌜ (r ≡ told (session (later tick) (now (input .entry)) (length (now (log .entry))))) × (now (log .exit) ≡ put 0 (bytesOf (session (later tick) (now (input .entry)) (length (now (log .entry))) .log)) (now (log .entry))) ⌝ }
+    ensures { λ r. ⌜ (r ≡ forC (session (later tick) (now (input .entry)) (length (now (log .entry))))) × (now (log .exit) ≡ put 0 (bytesOf (session (later tick) (now (input .entry)) (length (now (log .entry))) .log)) (now (log .entry))) ⌝ }
 {
-    let fresh = bench::fresh();
-    session::read_told(Model { tick, ..fresh }, input, log)
+    let fresh = device::fresh();
+    session::read_for_c(Model { tick, ..fresh }, input, log)
 }

@@ -1,8 +1,8 @@
 // The width rule (document 01, "Widths"): a measured value filled out from the top to a number of bits.
 // Every function takes any numbers: a resolution of 0 counts as 1, and a width above 32 as 32.
-ghost use mathlib.Core.Path.{_≡_};
 ghost use Prim.Native.Nat.{_%_, min};
 ghost use Rattle.widen.specs.Width.{information, inputBytes, inputValue, mask, topBit, widened};
+ghost use mathlib.Core.Path.{_≡_};
 
 // A width that a u32 holds.
 fn capped(wide: u8) -> u8

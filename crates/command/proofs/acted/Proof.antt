@@ -2,7 +2,7 @@
 -- Assumes nothing.
 use Rattle.command.proofs.acted.Statement.{statement}
 use Rattle.command.proofs.acted.Tie as tie
-use Rattle.command.specs.Answering.{acted, done}
+use Rattle.command.specs.Answering.{acted, actedBy}
 use borrow.Author.Needs.{needs}
 
 meaning-requires : tie.Need-meaning-requires
@@ -24,15 +24,15 @@ enum-told : tie.Need-enum-told
 enum-told c = search needs
 
 returns : tie.Need-returns
-unfolding acted done
+unfolding acted actedBy
 returns c = rw (← c .before .before .before .before .meaning .ensures, c .before .before .command .given .1, c .obeyed .ensures)
 
 returns-2 : tie.Need-returns-2
-unfolding acted done
+unfolding acted actedBy
 returns-2 c = rw (← c .before .before .before .before .meaning .ensures, c .before .before .query .given .1, c .asked .ensures)
 
 returns-3 : tie.Need-returns-3
-unfolding acted done
+unfolding acted actedBy
 returns-3 c = rw (← c .before .before .meaning .ensures, c .enum-told .given .1)
 
 pub acted-spec : {M : Type 1} → statement M

@@ -29,20 +29,26 @@ word-requires c κs = search needs
 less-requires : tie.Need-less-requires
 less-requires c κs = search needs
 
+cast-rest : tie.Need-cast-rest
+cast-rest c = search needs
+
 slice-write-rest : tie.Need-slice-write-rest
 slice-write-rest c = omega arith
+
+cast-rest-2 : tie.Need-cast-rest-2
+cast-rest-2 c = search needs
 
 slice-write-rest-2 : tie.Need-slice-write-rest-2
 slice-write-rest-2 c = simp length-set (omega arith)
 
-cast-rest : tie.Need-cast-rest
-cast-rest c = search needs
+cast-rest-3 : tie.Need-cast-rest-3
+cast-rest-3 c = search needs
 
 slice-write-rest-3 : tie.Need-slice-write-rest-3
 slice-write-rest-3 c = simp length-set (omega arith)
 
-cast-rest-2 : tie.Need-cast-rest-2
-cast-rest-2 c = search needs
+cast-rest-4 : tie.Need-cast-rest-4
+cast-rest-4 c = search needs
 
 slice-write-rest-4 : tie.Need-slice-write-rest-4
 slice-write-rest-4 c = simp length-set (omega arith)
@@ -65,11 +71,13 @@ shorten-spec =
     slice-read-word-2
     word-requires
     less-requires
-    slice-write-rest
-    slice-write-rest-2
     cast-rest
-    slice-write-rest-3
+    slice-write-rest
     cast-rest-2
+    slice-write-rest-2
+    cast-rest-3
+    slice-write-rest-3
+    cast-rest-4
     slice-write-rest-4
     same-length
     returns-3)

@@ -1,7 +1,7 @@
 -- `stream::step` meets its contract: each part of the promise is what one call gives.
 -- Assumes nothing.
 use Prim.Native.Nat.{_≤_}
-use Rattle.stream.proofs.Turns.{step-kept, step-logged, step-told, within}
+use Rattle.stream.proofs.Turns.{step-kept, step-logged, step-comes, within}
 use Rattle.stream.proofs.step.Statement.{statement}
 use Rattle.stream.proofs.step.Tie as tie
 use borrow.Author.Needs.{needs}
@@ -23,22 +23,22 @@ part-read-end c = search needs
 read-requires : tie.Need-read-requires
 read-requires c κs = search needs
 
-sub-count : tie.Need-sub-count
-sub-count c = search needs
+sub-records-in : tie.Need-sub-records-in
+sub-records-in c = search needs
 
-part-count-start : tie.Need-part-count-start
-part-count-start c = search needs
+part-records-in-start : tie.Need-part-records-in-start
+part-records-in-start c = search needs
 
-part-count-end : tie.Need-part-count-end
-part-count-end c =
+part-records-in-end : tie.Need-part-records-in-end
+part-records-in-end c =
     let r = c .before .before .before in
     let l = r .before .before .before .before in
     let a = l .before .before .before .args in
     let inside : r .read .result .offset ≤ l .held .result = within (a .p .model) (l .held .result) (a .input .now) (length (a .output .now)) (r .read .ensures .0) in
     search needs
 
-count-requires : tie.Need-count-requires
-count-requires c κs = search needs
+records-in-requires : tie.Need-records-in-requires
+records-in-requires c κs = search needs
 
 keep-requires : tie.Need-keep-requires
 keep-requires c κs =
@@ -72,7 +72,7 @@ returns c =
     let r = c .before .before .before .before .before .before .before .before .before .before .before .before in
     let l = r .before .before .before .before in
     let a = l .before .before .before .args in (
-      step-told (a .p) (a .came) (a .input .now) (a .output .now) (l .held .ensures) (r .read .ensures .0) (c .before .before .before .before .before .before .before .count .ensures) refl
+      step-comes (a .p) (a .came) (a .input .now) (a .output .now) (l .held .ensures) (r .read .ensures .0) (c .before .before .before .before .before .before .before .records-in .ensures) refl
           (c .before .wrapping-add-u64 .ensures) (c .wrapping-add-u642 .ensures),
       step-kept (a .p) (a .came) (a .input .now) (a .output .now) (l .held .ensures) (r .read .ensures .0) (c .before .before .before .before .before .keep .ensures),
       step-logged (a .p) (a .came) (a .input .now) (a .output .now) (l .held .ensures) (r .read .ensures .0) (r .read .ensures .1),
@@ -87,10 +87,10 @@ step-spec =
     part-read-start
     part-read-end
     read-requires
-    sub-count
-    part-count-start
-    part-count-end
-    count-requires
+    sub-records-in
+    part-records-in-start
+    part-records-in-end
+    records-in-requires
     keep-requires
     sub-left
     wrapping-add-u64-requires

@@ -8,15 +8,15 @@ use borrow.Author.Needs.{needs}
 fresh-requires : tie.Need-fresh-requires
 fresh-requires c κs = search needs
 
-read-told-requires : tie.Need-read-told-requires
-read-told-requires c κs = search needs
+read-for-c-requires : tie.Need-read-for-c-requires
+read-for-c-requires c κs = search needs
 
 same-length : tie.Need-same-length
 same-length c = search needs
 
 returns : tie.Need-returns
 unfolding later
-returns c = rw (c .before .before .before .before .before .fresh .ensures) at (c .before .before .read-told .ensures)
+returns c = rw (c .before .before .before .before .before .fresh .ensures) at (c .before .before .read-for-c .ensures)
 
 pub trial-session-spec : {M : Type 1} → statement M
-trial-session-spec = tie.close (tie.spec fresh-requires read-told-requires same-length returns)
+trial-session-spec = tie.close (tie.spec fresh-requires read-for-c-requires same-length returns)

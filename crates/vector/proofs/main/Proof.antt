@@ -1,7 +1,7 @@
 -- `vector::main` is safe: what was written has room in the log.
 -- Assumes nothing.
 use Prim.Native.Nat.{_≤_}
-use Rattle.session.proofs.Bounds.{told-within}
+use Rattle.session.proofs.Bounds.{for-c-within}
 use Rattle.vector.proofs.main.Statement.{statement}
 use Rattle.vector.proofs.main.Tie as tie
 use borrow.Author.Needs.{needs}
@@ -22,7 +22,7 @@ part-write-all-start c = search needs
 part-write-all-end : tie.Need-part-write-all-end
 part-write-all-end c =
     let s = c .before .before .potmeander-session in
-    let w : s .result .written ≤ 400 = rw (s .ensures .0) (told-within _ _ _) in
+    let w : s .result .written ≤ 400 = rw (s .ensures .0) (for-c-within _ _ _) in
     omega (arith, w, c .before .log2 .given)
 
 write-all-requires : tie.Need-write-all-requires

@@ -1,10 +1,15 @@
 -- `command::answering::asked` meets its contract.
 -- Assumes nothing.
-use Rattle.command.proofs.Rest.{same-latch}
 use Rattle.command.proofs.answering.asked.Statement.{statement}
 use Rattle.command.proofs.answering.asked.Tie as tie
 use Rattle.command.specs.Answering.{asked}
 use borrow.Author.Needs.{needs}
+
+enum-known-query : tie.Need-enum-known-query
+enum-known-query c = search needs
+
+value-of-requires : tie.Need-value-of-requires
+value-of-requires c κs = search needs
 
 enum-told : tie.Need-enum-told
 enum-told c = search needs
@@ -21,8 +26,8 @@ input-bytes-requires c κs = search needs
 latched-requires : tie.Need-latched-requires
 latched-requires c κs = search needs
 
-told-requires : tie.Need-told-requires
-told-requires c κs = search needs
+answered-requires : tie.Need-answered-requires
+answered-requires c κs = search needs
 
 enum-told-2 : tie.Need-enum-told-2
 enum-told-2 c = search needs
@@ -30,37 +35,36 @@ enum-told-2 c = search needs
 latched-requires-2 : tie.Need-latched-requires-2
 latched-requires-2 c κs = search needs
 
-told-requires-2 : tie.Need-told-requires-2
-told-requires-2 c κs = search needs
-
-plain-requires : tie.Need-plain-requires
-plain-requires c κs = search needs
+answered-requires-2 : tie.Need-answered-requires-2
+answered-requires-2 c κs = search needs
 
 returns : tie.Need-returns
 unfolding asked
-returns c = rw (c .before .before .before .before .before .enum-told .given .1, c .told .ensures, c .before .latched .ensures, c .before .before .input-bytes .ensures, c .before .before .before .resolution .ensures, c .before .before .before .before .input .ensures)
+returns c = rw (c .before .before .query .given .1, c .value-of .ensures)
 
 returns-2 : tie.Need-returns-2
 unfolding asked
-returns-2 c = rw (c .before .before .enum-told2 .given .1, c .told2 .ensures, c .before .latched2 .ensures)
+returns-2 c = rw (c .before .before .before .before .before .enum-told .given .1, c .answered .ensures, c .before .latched .ensures, c .before .before .input-bytes .ensures, c .before .before .before .resolution .ensures, c .before .before .before .before .input .ensures)
 
 returns-3 : tie.Need-returns-3
-returns-3 c = rw (c .plain .ensures) (same-latch _ (c .before .before .before .args .query) (c .before .match .keys3))
+unfolding asked
+returns-3 c = rw (c .before .before .enum-told2 .given .1, c .answered2 .ensures, c .before .latched2 .ensures)
 
 pub asked-spec : {M : Type 1} → statement M
 asked-spec =
     tie.close
     (tie.spec
+    enum-known-query
+    value-of-requires
     enum-told
     input-requires
     resolution-requires
     input-bytes-requires
     latched-requires
-    told-requires
+    answered-requires
     enum-told-2
     latched-requires-2
-    told-requires-2
-    plain-requires
+    answered-requires-2
     returns
     returns-2
     returns-3)

@@ -6,14 +6,14 @@ use Rattle.command.proofs.lent.apply as apply
 use Rattle.command.proofs.lent.apply.Code as code
 use Rattle.command.proofs.lent.apply.Key.{name as #apply}
 use Rattle.command.proofs.lent.apply.Statement as stated
-use Rattle.command.proofs.meaning.Command as E
-use Rattle.command.proofs.meaning.Command.Laws as E′
 use Rattle.command.proofs.setting.changed as value
 use Rattle.command.proofs.setting.changed.Met as value-thm
 use Rattle.command.proofs.setting.changed.Symbol as value-def
 use Rattle.command.proofs.setting.changed.Symbol.{name as #value}
 use Rattle.command.specs.Setting.{changed}
-use Rattle.command.specs.declared.meaning.Command.{Command}
+use Rattle.opcode.proofs.meanings.Command as E
+use Rattle.opcode.proofs.meanings.Command.Laws as E′
+use Rattle.opcode.specs.declared.meanings.Command.{Command}
 use Rattle.sensor.proofs.settings.Settings as T
 use Rattle.sensor.proofs.settings.Settings.Laws as T′
 use Rattle.sensor.specs.declared.settings.Settings.{Settings}

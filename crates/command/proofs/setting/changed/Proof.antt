@@ -8,8 +8,8 @@ use borrow.Author.Needs.{needs}
 enum-told : tie.Need-enum-told
 enum-told c = search needs
 
-with-priority-requires : tie.Need-with-priority-requires
-with-priority-requires c κs = search needs
+bounded-priority-requires : tie.Need-bounded-priority-requires
+bounded-priority-requires c κs = search needs
 
 enum-told-2 : tie.Need-enum-told-2
 enum-told-2 c = search needs
@@ -44,8 +44,8 @@ with-deadtime-requires c κs = search needs
 enum-told-7 : tie.Need-enum-told-7
 enum-told-7 c = search needs
 
-with-hysteresis-requires : tie.Need-with-hysteresis-requires
-with-hysteresis-requires c κs = search needs
+bounded-hysteresis-requires : tie.Need-bounded-hysteresis-requires
+bounded-hysteresis-requires c κs = search needs
 
 enum-told-8 : tie.Need-enum-told-8
 enum-told-8 c = search needs
@@ -55,7 +55,7 @@ with-minimum-requires c κs = search needs
 
 returns : tie.Need-returns
 unfolding changed
-returns c = rw (c .before .enum-told .given .1) (c .with-priority .ensures)
+returns c = rw (c .before .enum-told .given .1) (c .bounded-priority .ensures)
 
 returns-2 : tie.Need-returns-2
 unfolding changed
@@ -79,7 +79,7 @@ returns-6 c = rw (c .before .enum-told6 .given .1) (c .with-deadtime .ensures)
 
 returns-7 : tie.Need-returns-7
 unfolding changed
-returns-7 c = rw (c .before .enum-told7 .given .1) (c .with-hysteresis .ensures)
+returns-7 c = rw (c .before .enum-told7 .given .1) (c .bounded-hysteresis .ensures)
 
 returns-8 : tie.Need-returns-8
 unfolding changed
@@ -90,7 +90,7 @@ changed-spec =
     tie.close
     (tie.spec
     enum-told
-    with-priority-requires
+    bounded-priority-requires
     enum-told-2
     with-enabled-requires
     enum-told-3
@@ -102,7 +102,7 @@ changed-spec =
     enum-told-6
     with-deadtime-requires
     enum-told-7
-    with-hysteresis-requires
+    bounded-hysteresis-requires
     enum-told-8
     with-minimum-requires
     returns

@@ -1,9 +1,9 @@
 -- `sensor::light::width` meets its contract: the product of 32 bits and 8 fits in 40.
 -- Assumes nothing.
-use Rattle.gate.proofs.Laws.{product}
 use Rattle.sensor.proofs.light.width.Statement.{statement}
 use Rattle.sensor.proofs.light.width.Tie as tie
 use Rattle.sensor.specs.Light.{width}
+use Rattle.timers.proofs.Laws.{product}
 use borrow.Author.Needs.{needs}
 use lib.Dec.{lit<}
 use native.Mathlib.Nat.{lt-trans}

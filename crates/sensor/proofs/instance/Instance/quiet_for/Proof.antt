@@ -14,15 +14,15 @@ rules-requires c κs = search needs
 cause-requires : tie.Need-cause-requires
 cause-requires c κs = search needs
 
-shut-for-requires : tie.Need-shut-for-requires
-shut-for-requires c κs = search needs
+silent-for-requires : tie.Need-silent-for-requires
+silent-for-requires c κs = search needs
 
 returns : tie.Need-returns
 unfolding quietFor
 returns c =
     let before = c .before .before .before in
     let tested = before .before .before .before in
-    rw (c .shut-for .ensures, c .before .before .cause .ensures, before .rules .ensures, ← tested .before .steady .ensures, tested .if1 .taken)
+    rw (c .silent-for .ensures, c .before .before .cause .ensures, before .rules .ensures, ← tested .before .steady .ensures, tested .if1 .taken)
 
 returns-2 : tie.Need-returns-2
 unfolding quietFor
@@ -35,6 +35,6 @@ quiet-for-spec =
     steady-requires
     rules-requires
     cause-requires
-    shut-for-requires
+    silent-for-requires
     returns
     returns-2)

@@ -1,4 +1,0 @@
-pub mod Device
-pub mod Tick
-pub mod Quiet
-pub mod Frame

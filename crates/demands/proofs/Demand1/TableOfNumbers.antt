@@ -1,0 +1,208 @@
+-- Each refusal but 9 is given exactly when its row of the table holds.
+-- Assumes nothing.
+use Prim.Native.Nat.{ℕ, _-_, _<_, _^_, _≤_}
+use Rattle.demands.proofs.Demand1.Tells.{Tells, fails, holds, tells-and, tells-as, tells-bool, tells-cond, tells-eqb, tells-leb, tells-ltb, tells-not, tells-or}
+use Rattle.demands.proofs.Shared.Marks.{MarkIs, fr-asked, in-asked, mark-is, sa-asked, tk-asked, unknown-mark}
+use Rattle.demands.specs.Numbers.{Allowed, Declared, FR, Given, IN, Late, NoSensor, SA, TK}
+use Rattle.device.specs.Device.{allowed, instanceAt, known}
+use Rattle.device.specs.declared.model.Model.{Model}
+use Rattle.judging.proofs.Asking.{marked}
+use Rattle.judging.specs.Asked.{asked, askedBy, declareAsked, frameAsked, sampleAsked, sampleIn, ticksAsked}
+use Rattle.judging.specs.declared.asked.Asked.the-variants.{Declare, Frame, Hold, Refused, Ticks}
+use Rattle.judging.specs.declared.asked.Asked.{Asked}
+use Rattle.judging.specs.declared.asked.Refusal.the-variants.{BadSample, Cut, Full, LateOrSkipped, NoSuchSensor, NoTicks, TimeOver, Undeclared, UnknownMark}
+use Rattle.judging.specs.declared.asked.Refusal.{Refusal}
+use Rattle.record.specs.Log.{AllBytes}
+use Rattle.record.specs.Marks.{markOf}
+use Rattle.record.specs.Numbers.{byte, word}
+use Rattle.record.specs.declared.marks.Mark.the-variants.{Bus, Declaration, Measurement, Time, Unknown}
+use Rattle.record.specs.declared.marks.Mark.{Mark}
+use Rattle.sensor.specs.Kind.{allows, modelled}
+use Rattle.sensor.specs.Light.{lightAllows}
+use Rattle.sensor.specs.Occupancy.{occupancyAllows}
+use Rattle.sensor.specs.declared.kind.Kind.the-variants.{Light, Occupancy}
+use Rattle.sensor.specs.declared.kind.Kind.{Kind}
+use Rattle.sensor.specs.declared.settings.Sample.{Sample}
+use borrow.Author.Tests.{eq-eqb, eqb-false, eqb-true, le-ltb, lt-ltb, ltb-false, ltb-true, ne-eqb}
+use lib.Dec.{eqb, ltb}
+use lib.ListN.{length}
+use mathlib.Core.Bool.{Bool, cond, false, not, true, _&&_, _||_}
+use mathlib.Core.List.{List}
+use mathlib.Core.Logic.{inl, inr, _≢_, _⊎_}
+use mathlib.Core.Path.{refl, subst, _∙_, _≡_}
+use native.Mathlib.Decide.{decLe, decLt, ℕ-discrete}
+use native.Mathlib.Omega.{arith}
+
+-- ---- the tests of the rows
+late-tells : (rest : List ℕ) (m : Model) → Tells (m .running || not (eqb (byte rest 2) (m .declared))) (Late rest m)
+late-tells rest m = tells-or (tells-bool (m .running)) (tells-not (tells-eqb (byte rest 2) (m .declared)))
+
+abbrev Sensor : (number type resolution : ℕ) → Type 0
+Sensor i t r = (i < 16) × (((t ≡ 4) × ((1 ≤ r) × (r ≤ 24))) ⊎ ((t ≢ 4) × ((t ≡ 3) × (r ≡ 2))))
+
+sensor-tells : (i t r : ℕ) → Tells (ltb i 16 && modelled t r) (Sensor i t r)
+unfolding modelled
+sensor-tells i t r =
+    tells-and (tells-ltb i 16) (tells-cond (tells-eqb t 4) (tells-and (tells-leb 1 r) (tells-leb r 24)) (tells-and (tells-eqb t 3) (tells-eqb r 2)))
+
+no-sensor : (i t r : ℕ) → (Sensor i t r → ⊥) → NoSensor i t r
+no-sensor i t r n = go (decLt i 16) (ℕ-discrete t 3) (ℕ-discrete t 4) (ℕ-discrete r 2) (decLe 1 r) (decLe r 24)
+  where
+    go : Dec (i < 16) → Dec (t ≡ 3) → Dec (t ≡ 4) → Dec (r ≡ 2) → Dec (1 ≤ r) → Dec (r ≤ 24) → NoSensor i t r
+    go (no a) b c d e f = inl (omega arith)
+    go (yes a) (no b) (no c) d e f = inr (inl (b, c))
+    go (yes a) (yes b) c (no d) e f = inr (inr (inl (b, d)))
+    go (yes a) (yes b) c (yes d) e f = absurd (n (a, inr (λ k. omega arith, (b, d))))
+    go (yes a) (no b) (yes c) d (no e) f = inr (inr (inr (c, inl (omega arith))))
+    go (yes a) (no b) (yes c) d (yes e) (no f) = inr (inr (inr (c, inr (omega arith))))
+    go (yes a) (no b) (yes c) d (yes e) (yes f) = absurd (n (a, inl (c, (e, f))))
+
+never-sensor : (i t r : ℕ) → NoSensor i t r → Sensor i t r → ⊥
+never-sensor i t r (inl a) (b, s) = omega arith
+never-sensor i t r (inr (inl (a, b))) (c, inl (d, e)) = b d
+never-sensor i t r (inr (inl (a, b))) (c, inr (d, (e, f))) = a e
+never-sensor i t r (inr (inr (inl (a, b)))) (c, inl (d, e)) = omega arith
+never-sensor i t r (inr (inr (inl (a, b)))) (c, inr (d, (e, f))) = b f
+never-sensor i t r (inr (inr (inr (a, inl b)))) (c, inl (d, e)) = omega arith
+never-sensor i t r (inr (inr (inr (a, inr b)))) (c, inl (d, e)) = omega arith
+never-sensor i t r (inr (inr (inr (a, inl b)))) (c, inr (d, (e, f))) = d a
+never-sensor i t r (inr (inr (inr (a, inr b)))) (c, inr (d, (e, f))) = d a
+
+known-tells : (m : Model) (i : ℕ) → Tells (known m i) (Declared m i)
+unfolding known
+known-tells m i = tells-and (tells-ltb i (m .declared)) (tells-ltb i 16)
+
+allows-tells : (k : Kind) (s : Sample) → Tells (allows k s) (Allowed k s)
+unfolding allows lightAllows occupancyAllows
+allows-tells (Light l) s =
+    tells-as to from
+    (tells-cond (tells-eqb (s .status) 0) (tells-ltb (s .value) (2 ^ (l .resolution) - 1)) (tells-and (tells-leb (s .status) 2) (tells-eqb (s .value) 0)))
+  where
+    one-or-two : Dec (s .status ≡ 1) → s .status ≢ 0 → s .status ≤ 2 → s .value ≡ 0 → Allowed (Light l) s
+    one-or-two (yes a) n le z = inr (inl (a, z))
+    one-or-two (no a) n le z = inr (inr (omega arith, z))
+
+    to : ((s .status ≡ 0) × (s .value < 2 ^ (l .resolution) - 1)) ⊎ ((s .status ≢ 0) × ((s .status ≤ 2) × (s .value ≡ 0))) → Allowed (Light l) s
+    to (inl (a, b)) = inl (a, omega arith)
+    to (inr (a, (b, c))) = one-or-two (ℕ-discrete (s .status) 1) a b c
+
+    from : Allowed (Light l) s → ((s .status ≡ 0) × (s .value < 2 ^ (l .resolution) - 1)) ⊎ ((s .status ≢ 0) × ((s .status ≤ 2) × (s .value ≡ 0)))
+    from (inl (a, b)) = inl (a, omega arith)
+    from (inr (inl (a, b))) = inr (λ e. omega arith, (omega arith, b))
+    from (inr (inr (a, b))) = inr (λ e. omega arith, (omega arith, b))
+allows-tells (Occupancy o) s =
+    tells-as to from (tells-cond (tells-eqb (s .status) 0) (tells-ltb (s .value) 4) (tells-and (tells-eqb (s .status) 2) (tells-eqb (s .value) 0)))
+  where
+    to : ((s .status ≡ 0) × (s .value < 4)) ⊎ ((s .status ≢ 0) × ((s .status ≡ 2) × (s .value ≡ 0))) → Allowed (Occupancy o) s
+    to (inl (a, b)) = inl (a, omega arith)
+    to (inr (a, (b, c))) = inr (b, c)
+
+    from : Allowed (Occupancy o) s → ((s .status ≡ 0) × (s .value < 4)) ⊎ ((s .status ≢ 0) × ((s .status ≡ 2) × (s .value ≡ 0)))
+    from (inl (a, b)) = inl (a, omega arith)
+    from (inr (a, b)) = inr (λ e. omega arith, (a, b))
+
+allowed-tells : (m : Model) (i : ℕ) (s : Sample) → Declared m i → Tells (allowed m i s) (Allowed (instanceAt m i .kind) s)
+unfolding allowed
+allowed-tells m i s d = rw (lt-ltb i 16 (d .1)) (allows-tells (instanceAt m i .kind) s)
+
+module _ (rest : List ℕ) (m : Model) where
+  -- ---- a row that holds is given
+  pub given : AllBytes rest → (why : Refusal) → Given why rest m → asked rest m ≡ Refused why
+  unfolding asked askedBy declareAsked sampleAsked frameAsked ticksAsked
+  given bytes UnknownMark (l, a, b, c, d) = marked rest m l ∙ rw (unknown-mark rest l (a, b, c, d))
+  given bytes Cut (inl h) = rw (lt-ltb (length rest) 2 h)
+  given bytes Cut (inr (inl (k, h))) = in-asked rest m k ∙ rw (lt-ltb (length rest) 5 h)
+  given bytes Cut (inr (inr (inl (k, h)))) = sa-asked rest m k ∙ rw (lt-ltb (length rest) 7 h)
+  given bytes Cut (inr (inr (inr (inl (k, h))))) = fr-asked rest m k ∙ rw (lt-ltb (length rest) 5 h)
+  given bytes Cut (inr (inr (inr (inr (k, h))))) = tk-asked rest m k ∙ rw (lt-ltb (length rest) 4 h)
+  given bytes LateOrSkipped (k, h, late) = in-asked rest m k ∙ rw (le-ltb (length rest) 5 h, holds (late-tells rest m) late)
+  given bytes NoSuchSensor (k, h, n, s) =
+      in-asked rest m k
+      ∙ rw (
+        le-ltb (length rest) 5 h,
+        fails (late-tells rest m) n,
+        fails (sensor-tells (byte rest 2) (byte rest 3) (byte rest 4)) (never-sensor (byte rest 2) (byte rest 3) (byte rest 4) s),
+      )
+  given bytes Undeclared (k, h, n) = sa-asked rest m k ∙ rw (le-ltb (length rest) 7 h, fails (known-tells m (byte rest 2)) n)
+  given bytes BadSample (k, h, d, n) =
+      sa-asked rest m k
+      ∙ rw (le-ltb (length rest) 7 h, holds (known-tells m (byte rest 2)) d, fails (allowed-tells m (byte rest 2) (sampleIn rest) d) n)
+  given bytes NoTicks (k, h, z) = tk-asked rest m k ∙ rw (le-ltb (length rest) 4 h, eq-eqb (word rest 2) 0 z)
+  given bytes TimeOver (k, h, n, over) =
+      tk-asked rest m k ∙ rw (le-ltb (length rest) 4 h, ne-eqb (word rest 2) 0 n, lt-ltb (4294967295 - m .tick) (word rest 2) (omega arith))
+  given bytes Full n = absurd n
+
+  -- ---- what is given holds
+  abbrev Says : Asked → Type 0
+  Says (Refused why) = Given why rest m
+  Says (Declare type resolution) = Unit {0}
+  Says (Hold i sample) = Unit {0}
+  Says (Frame first second third) = Unit {0}
+  Says (Ticks n) = Unit {0}
+
+  in-says : IN rest → Says (declareAsked rest m)
+  unfolding declareAsked
+  in-says k =
+      go (ltb (length rest) 5) refl (m .running || not (eqb (byte rest 2) (m .declared))) refl (ltb (byte rest 2) 16 && modelled (byte rest 3) (byte rest 4)) refl
+    where
+      go : (a : Bool) → ltb (length rest) 5 ≡ a → (b : Bool) → (m .running || not (eqb (byte rest 2) (m .declared))) ≡ b
+          → (c : Bool) → (ltb (byte rest 2) 16 && modelled (byte rest 3) (byte rest 4)) ≡ c
+          → Says (cond a (Refused Cut) (cond b (Refused LateOrSkipped) (cond c (Declare (byte rest 3) (byte rest 4)) (Refused NoSuchSensor))))
+      go true e b f c g = inr (inl (k, ltb-true (length rest) 5 e))
+      go false e true f c g = (k, ltb-false (length rest) 5 e, late-tells rest m .yes f)
+      go false e false f true g = tt
+      go false e false f false g =
+          let none = no-sensor (byte rest 2) (byte rest 3) (byte rest 4) (sensor-tells (byte rest 2) (byte rest 3) (byte rest 4) .no g) in
+          (k, ltb-false (length rest) 5 e, late-tells rest m .no f, none)
+
+  sa-says : SA rest → Says (sampleAsked rest m)
+  unfolding sampleAsked
+  sa-says k = go (ltb (length rest) 7) refl (known m (byte rest 2)) refl (allowed m (byte rest 2) (sampleIn rest)) refl
+    where
+      go : (a : Bool) → ltb (length rest) 7 ≡ a → (b : Bool) → known m (byte rest 2) ≡ b → (c : Bool) → allowed m (byte rest 2) (sampleIn rest) ≡ c
+          → Says (cond a (Refused Cut) (cond b (cond c (Hold (byte rest 2) (sampleIn rest)) (Refused BadSample)) (Refused Undeclared)))
+      go true e b f c g = inr (inr (inl (k, ltb-true (length rest) 7 e)))
+      go false e false f c g = (k, ltb-false (length rest) 7 e, known-tells m (byte rest 2) .no f)
+      go false e true f true g = tt
+      go false e true f false g =
+          let d = known-tells m (byte rest 2) .yes f in
+          (k, ltb-false (length rest) 7 e, d, allowed-tells m (byte rest 2) (sampleIn rest) d .no g)
+
+  fr-says : FR rest → Says (frameAsked rest)
+  unfolding frameAsked
+  fr-says k = go (ltb (length rest) 5) refl
+    where
+      go : (a : Bool) → ltb (length rest) 5 ≡ a → Says (cond a (Refused Cut) (Frame (byte rest 2) (byte rest 3) (byte rest 4)))
+      go true e = inr (inr (inr (inl (k, ltb-true (length rest) 5 e))))
+      go false e = tt
+
+  tk-says : TK rest → Says (ticksAsked rest m)
+  unfolding ticksAsked
+  tk-says k = go (ltb (length rest) 4) refl (eqb (word rest 2) 0) refl (ltb (4294967295 - m .tick) (word rest 2)) refl
+    where
+      go : (a : Bool) → ltb (length rest) 4 ≡ a → (b : Bool) → eqb (word rest 2) 0 ≡ b → (c : Bool) → ltb (4294967295 - m .tick) (word rest 2) ≡ c
+          → Says (cond a (Refused Cut) (cond b (Refused NoTicks) (cond c (Refused TimeOver) (Ticks (word rest 2)))))
+      go true e b f c g = inr (inr (inr (inr (k, ltb-true (length rest) 4 e))))
+      go false e true f c g = (k, ltb-false (length rest) 4 e, eqb-true (word rest 2) 0 f)
+      go false e false f true g =
+          let h = ltb-true (4294967295 - m .tick) (word rest 2) g in
+          (k, ltb-false (length rest) 4 e, eqb-false (word rest 2) 0 f, omega arith)
+      go false e false f false g = tt
+
+  says : AllBytes rest → Says (asked rest m)
+  unfolding asked askedBy
+  says bytes = go (ltb (length rest) 2) refl
+    where
+      by : (k : Mark) → 2 ≤ length rest → MarkIs k rest → Says (askedBy k rest m)
+      by Unknown l (a, b, c, d) = (l, a, b, c, d)
+      by Declaration l k = in-says k
+      by Measurement l k = sa-says k
+      by Bus l k = fr-says k
+      by Time l k = tk-says k
+
+      go : (a : Bool) → ltb (length rest) 2 ≡ a → Says (cond a (Refused Cut) (askedBy (markOf (word rest 0)) rest m))
+      go true e = inl (ltb-true (length rest) 2 e)
+      go false e = let l = ltb-false (length rest) 2 e in by (markOf (word rest 0)) l (mark-is rest l)
+
+  pub holds-given : AllBytes rest → (why : Refusal) → asked rest m ≡ Refused why → Given why rest m
+  holds-given bytes why e = subst Says e (says bytes)

@@ -1,0 +1,14 @@
+-- What several pages rest on:
+--     ByRecords, Behind, FirstRecord    a session is read record by record
+--     Runs, OneInstance, EventsInLog    a session is a run of happenings, and what that is to one instance
+--     Marks, NoRoom                     the tests that the numbers of refusals go by
+--     FullSession                       document 01's full session
+pub mod Behind
+pub mod ByRecords
+pub mod EventsInLog
+pub mod FirstRecord
+pub mod FullSession
+pub mod Marks
+pub mod NoRoom
+pub mod OneInstance
+pub mod Runs

@@ -1,0 +1,90 @@
+-- What each happening does to the device and to one instance of it: the laws of the device, over happenings.
+-- Assumes nothing.
+use Prim.Native.Nat.{ℕ, _+_, _≤_}
+use Rattle.command.specs.Answering.{ButLatch}
+use Rattle.demands.specs.Alone.{Present, loadsDtr0, rises}
+use Rattle.demands.specs.Happenings.{Happening, declare, frame, happen, hold, modelAfter, tick}
+use Rattle.demands.specs.Window.{setsIt}
+use Rattle.device.proofs.Instances.{alike, declared-more, held-at, numbered-latch}
+use Rattle.device.proofs.Laws.{declared-dtr0, declared-length, declared-tick, frame-declared, frame-counts, frame-dtr0, frame-ignored, frame-length, frame-loads, frame-tick, held-declared, held-length, numbered-other}
+use Rattle.device.specs.Device.{heldModel, instanceAt}
+use Rattle.device.specs.Frame.{counts, frameModel, loads, numberedModel}
+use Rattle.device.specs.declared.model.Model.{Model}
+use Rattle.opcode.specs.Meaning.{isSetting, meaning}
+use Rattle.sensor.specs.Tick.{holding, ticked}
+use Rattle.sensor.specs.declared.settings.Sample.{Sample}
+use Rattle.ticks.proofs.Laws.{tick-declared, tick-length}
+use Rattle.ticks.proofs.Ticked.{tick-at}
+use Rattle.ticks.specs.Tick.{tickModel}
+use borrow.Author.Tests.{eq-eqb}
+use lib.ListN.{length}
+use mathlib.Core.Bool.{Bool, false, true}
+use mathlib.Core.List.{List, [], _∷_}
+use mathlib.Core.Path.{refl, subst, sym, _∙_, _≡_}
+use native.Mathlib.Decide.{ℕ-discrete}
+use native.Mathlib.Nat.{add-zero}
+use native.Mathlib.Omega.{arith}
+
+-- ---- any happening
+module _ (m : Model) where
+  pub happen-tick : (h : Happening) → happen m h .tick ≡ m .tick + rises h
+  unfolding heldModel tickModel
+  happen-tick (declare type resolution) = declared-tick m type resolution ∙ sym (add-zero (m .tick))
+  happen-tick (hold i sample) = sym (add-zero (m .tick))
+  happen-tick (frame first second third) = frame-tick m first second third ∙ sym (add-zero (m .tick))
+  happen-tick tick = refl
+
+  pub dtr0-kept : (h : Happening) → loadsDtr0 h ≡ false → happen m h .dtr0 ≡ m .dtr0
+  unfolding heldModel tickModel
+  dtr0-kept (declare type resolution) e = declared-dtr0 m type resolution
+  dtr0-kept (hold i sample) e = refl
+  dtr0-kept (frame first second third) e = frame-dtr0 m first second third e
+  dtr0-kept tick e = refl
+
+  happen-length : (h : Happening) → length (happen m h .instances) ≡ length (m .instances)
+  happen-length (declare type resolution) = declared-length m type resolution
+  happen-length (hold i sample) = held-length m i sample
+  happen-length (frame first second third) = frame-length m first second third
+  happen-length tick = tick-length m
+
+  happen-count : (h : Happening) → m .declared ≤ happen m h .declared
+  happen-count (declare type resolution) = declared-more m type resolution
+  happen-count (hold i sample) = omega (arith, held-declared m i sample)
+  happen-count (frame first second third) = omega (arith, frame-declared m first second third)
+  happen-count tick = omega (arith, tick-declared m)
+
+  pub happen-present : {i : ℕ} (h : Happening) → Present i m → Present i (happen m h)
+  happen-present h p =
+      record { declared = omega (arith, p .declared, happen-count h); listed = omega (arith, p .listed, happen-length h) }
+
+-- a run keeps how many instances the device has
+pub run-length : (m : Model) (hs : List Happening) → length (modelAfter m hs .instances) ≡ length (m .instances)
+unfolding modelAfter
+run-length m [] = refl
+run-length m (h ∷ hs) = run-length (happen m h) hs ∙ happen-length m h
+
+-- ---- SA, of an instance that is there
+pub held-own : {i : ℕ} {m : Model} (sample : Sample) → Present i m → instanceAt (heldModel m i sample) i ≡ holding (instanceAt m i) sample
+held-own {i} {m} sample p = held-at m i sample (p .listed)
+
+-- ---- FR: a frame that sets nothing of instance i changes at most its latch
+pub frame-latch : (i : ℕ) (m : Model) (first second third : ℕ) → setsIt i m first second third ≡ false
+    → ButLatch (instanceAt m i) (instanceAt (frameModel m first second third) i)
+unfolding instanceAt
+frame-latch i m first second third e = go (loads first second) refl (counts m first second) refl
+  where
+    by : counts m first second ≡ true → Dec (i ≡ second) → ButLatch (instanceAt m i) (instanceAt (numberedModel m second third) i)
+    by n (no other) = alike (numbered-other m second third i other)
+    by n (yes q) =
+        let calm : isSetting (meaning (instanceAt m i .kind) third) ≡ false = rw (n, eq-eqb second i (sym q)) at e in
+        subst (λ j. ButLatch (instanceAt m i) (instanceAt (numberedModel m j third) i)) q (numbered-latch m i third calm)
+
+    go : (l : Bool) → loads first second ≡ l → (c : Bool) → counts m first second ≡ c
+        → ButLatch (instanceAt m i) (instanceAt (frameModel m first second third) i)
+    go true l c n = rw (frame-loads m first second third l .0) (alike refl)
+    go false l true n = rw (frame-counts m first second third l n .0) (by n (ℕ-discrete i second))
+    go false l false n = rw (frame-ignored m first second third l n .0) (alike refl)
+
+-- ---- a tick, of an instance that is there
+pub ticked-own : {i : ℕ} {m : Model} → Present i m → instanceAt (tickModel m) i ≡ ticked (instanceAt m i) .instance
+ticked-own {i} {m} p = tick-at m i (p .declared) (p .listed)

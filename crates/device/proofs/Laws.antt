@@ -1,0 +1,245 @@
+-- The laws of the device, for the crates above: what each change does to one instance, and what it keeps.
+-- Assumes nothing.
+use Prim.Native.Nat.{ℕ, _+_, _<_, _≤_}
+use Rattle.device.specs.Device.{underWay, declaredModel, fresh, heldModel, instanceAt, known, offered, withDeclared, withDtr0, withInstance}
+use Rattle.device.specs.Frame.{actedAt, counts, frameLog, frameModel, loads, numberedLog, numberedModel}
+use Rattle.device.specs.declared.model.Model.{Model}
+use Rattle.record.specs.Log.{Logged, bytesOf}
+use Rattle.sensor.proofs.Laws.{both}
+use Rattle.sensor.specs.Fresh as sensors
+use Rattle.sensor.specs.Tick.{holding}
+use Rattle.sensor.specs.declared.settings.Sample.{Sample}
+use borrow.Author.Tests.{le-leb, le-ltb, lt-leb, lt-ltb, ltb-true}
+use lib.Dec.{eqb, ltb}
+use lib.ListN.{getD, length, length-set}
+use lib.Seq.{getD-set-other, getD-set-same}
+use mathlib.Core.Bool.{Bool, cond, false, true, _||_}
+use mathlib.Core.List.{List, []}
+use mathlib.Core.Logic.{_≢_}
+use mathlib.Core.Path.{ap, refl, _≡_}
+use native.Mathlib.Omega.{arith}
+
+-- ---- what logs
+module _ (m after : Model) (log : List Logged) (room : ℕ) where
+  -- is taken whole
+  pub offered-fits : length (bytesOf log) ≤ room
+      → offered m after log room ≡ record { model = after; written = length (bytesOf log); fits = true }
+  unfolding offered
+  offered-fits h = rw (le-leb (length (bytesOf log)) room h)
+
+  -- or not at all
+  pub offered-full : room < length (bytesOf log) → offered m after log room ≡ record { model = m; written = 0; fits = false }
+  unfolding offered
+  offered-full h = rw (lt-leb (length (bytesOf log)) room h)
+
+-- ---- who is declared
+pub known-below : (m : Model) (i : ℕ) → known m i ≡ true → (i < m .declared) × (i < 16)
+unfolding known
+known-below m i h =
+    let p = both (ltb i (m .declared)) (ltb i 16) h in
+    (ltb-true i (m .declared) (p .0), ltb-true i 16 (p .1))
+
+pub below-known : (m : Model) (i : ℕ) → i < m .declared → i < 16 → known m i ≡ true
+unfolding known
+below-known m i h w = rw (lt-ltb i (m .declared) h, lt-ltb i 16 w)
+
+-- who is declared goes by how many are
+pub known-kept : (m m′ : Model) (i : ℕ) → m′ .declared ≡ m .declared → known m′ i ≡ known m i
+unfolding known
+known-kept m m′ i e = rw e
+
+pub fresh-length : length (fresh .instances) ≡ 16
+unfolding fresh
+fresh-length = refl
+
+-- ---- IN
+-- the model with the next instance
+abbrev enlarged : Model → (type resolution : ℕ) → Model
+enlarged m type resolution = withDeclared (m .declared + 1) (withInstance (m .declared) (sensors.declared type resolution) m)
+
+module _ (m : Model) (type resolution : ℕ) where
+  declared-by : (P : Model → Type 0) → P (enlarged m type resolution) → P m → P (declaredModel m type resolution)
+  unfolding declaredModel
+  declared-by P next full = go (ltb (m .declared) 16)
+    where
+      go : (b : Bool) → P (cond b (enlarged m type resolution) m)
+      go true = next
+      go false = full
+
+  pub declared-tick : declaredModel m type resolution .tick ≡ m .tick
+  declared-tick = declared-by (λ (x : Model). x .tick ≡ m .tick) refl refl
+
+  pub declared-dtr0 : declaredModel m type resolution .dtr0 ≡ m .dtr0
+  declared-dtr0 = declared-by (λ (x : Model). x .dtr0 ≡ m .dtr0) refl refl
+
+  pub declared-next : m .declared < 16 → declaredModel m type resolution .declared ≡ m .declared + 1
+  unfolding declaredModel
+  declared-next h = rw (lt-ltb (m .declared) 16 h)
+
+  pub declared-running : declaredModel m type resolution .running ≡ m .running
+  declared-running = declared-by (λ (x : Model). x .running ≡ m .running) refl refl
+
+  pub declared-length : length (declaredModel m type resolution .instances) ≡ length (m .instances)
+  declared-length =
+      declared-by (λ (x : Model). length (x .instances) ≡ length (m .instances))
+      (length-set (m .instances) (m .declared) (sensors.declared type resolution)) refl
+
+  -- there is no seventeenth
+  pub declared-full : 16 ≤ m .declared → declaredModel m type resolution ≡ m
+  unfolding declaredModel
+  declared-full h = rw (le-ltb (m .declared) 16 h)
+
+  -- the next instance is of that type
+  pub declared-here : length (m .instances) ≡ 16 → m .declared < 16
+      → instanceAt (declaredModel m type resolution) (m .declared) ≡ sensors.declared type resolution
+  unfolding declaredModel instanceAt
+  declared-here all h =
+      let w : m .declared < length (m .instances) = omega arith in
+      rw (lt-ltb (m .declared) 16 h) (getD-set-same (m .instances) (m .declared) (sensors.declared type resolution) sensors.blank w)
+
+  -- and every other is as it was
+  pub declared-other : (j : ℕ) → j ≢ m .declared → instanceAt (declaredModel m type resolution) j ≡ instanceAt m j
+  unfolding instanceAt
+  declared-other j ne =
+      declared-by (λ (x : Model). getD (x .instances) j sensors.blank ≡ getD (m .instances) j sensors.blank)
+      (getD-set-other (m .instances) (m .declared) j (sensors.declared type resolution) sensors.blank ne) refl
+
+-- ---- SA
+module _ (m : Model) (i : ℕ) (sample : Sample) where
+  pub held-tick : heldModel m i sample .tick ≡ m .tick
+  unfolding heldModel
+  held-tick = refl
+
+  pub held-dtr0 : heldModel m i sample .dtr0 ≡ m .dtr0
+  unfolding heldModel
+  held-dtr0 = refl
+
+  pub held-declared : heldModel m i sample .declared ≡ m .declared
+  unfolding heldModel
+  held-declared = refl
+
+  pub held-running : heldModel m i sample .running ≡ true
+  unfolding heldModel
+  held-running = refl
+
+  pub held-length : length (heldModel m i sample .instances) ≡ length (m .instances)
+  unfolding heldModel
+  held-length = length-set (m .instances) i (holding (instanceAt m i) sample)
+
+  -- the instance holds the sample
+  pub held-here : length (m .instances) ≡ 16 → known m i ≡ true
+      → instanceAt (heldModel m i sample) i ≡ holding (instanceAt m i) sample
+  unfolding heldModel instanceAt
+  held-here all k =
+      let w : i < length (m .instances) = omega (arith, known-below m i k) in
+      getD-set-same (m .instances) i _ sensors.blank w
+
+  -- and every other is as it was
+  pub held-other : (j : ℕ) → j ≢ i → instanceAt (heldModel m i sample) j ≡ instanceAt m j
+  unfolding heldModel instanceAt
+  held-other j ne = getD-set-other (m .instances) i j _ sensors.blank ne
+
+-- ---- a frame that counts for instance i
+module _ (m : Model) (i opcode : ℕ) where
+  pub numbered-tick : numberedModel m i opcode .tick ≡ m .tick
+  unfolding numberedModel
+  numbered-tick = refl
+
+  pub numbered-dtr0 : numberedModel m i opcode .dtr0 ≡ m .dtr0
+  unfolding numberedModel
+  numbered-dtr0 = refl
+
+  pub numbered-declared : numberedModel m i opcode .declared ≡ m .declared
+  unfolding numberedModel
+  numbered-declared = refl
+
+  pub numbered-running : numberedModel m i opcode .running ≡ true
+  unfolding numberedModel
+  numbered-running = refl
+
+  pub numbered-length : length (numberedModel m i opcode .instances) ≡ length (m .instances)
+  unfolding numberedModel
+  numbered-length = length-set (m .instances) i (actedAt m i opcode .instance)
+
+  -- the instance is as byte 3 leaves it
+  pub numbered-here : length (m .instances) ≡ 16 → known m i ≡ true
+      → instanceAt (numberedModel m i opcode) i ≡ actedAt m i opcode .instance
+  unfolding numberedModel instanceAt
+  numbered-here all k =
+      let w : i < length (m .instances) = omega (arith, known-below m i k) in
+      getD-set-same (m .instances) i _ sensors.blank w
+
+  -- and every other is as it was
+  pub numbered-other : (j : ℕ) → j ≢ i → instanceAt (numberedModel m i opcode) j ≡ instanceAt m j
+  unfolding numberedModel instanceAt
+  numbered-other j ne = getD-set-other (m .instances) i j _ sensors.blank ne
+
+-- a frame that counts, counts for a declared instance
+pub counts-known : (m : Model) (first second : ℕ) → counts m first second ≡ true → known m second ≡ true
+unfolding counts
+counts-known m first second k = both (eqb first 0x01 || eqb first 0xFF) (known m second) k .1
+
+-- ---- FR: the three ways of a frame
+module _ (m : Model) (first second third : ℕ) where
+  pub frame-loads : loads first second ≡ true
+      → (frameModel m first second third ≡ underWay (withDtr0 third m)) × (frameLog m first second third ≡ [])
+  unfolding frameModel frameLog
+  frame-loads l = (rw l, rw l)
+
+  pub frame-counts : loads first second ≡ false → counts m first second ≡ true
+      → (frameModel m first second third ≡ numberedModel m second third) × (frameLog m first second third ≡ numberedLog m second third)
+  unfolding frameModel frameLog
+  frame-counts l k = (rw (l, k), rw (l, k))
+
+  pub frame-ignored : loads first second ≡ false → counts m first second ≡ false
+      → (frameModel m first second third ≡ underWay m) × (frameLog m first second third ≡ [])
+  unfolding frameModel frameLog
+  frame-ignored l k = (rw (l, k), rw (l, k))
+
+  -- it loads DTR0, which all instances share, whoever is declared
+  pub frame-loaded : loads first second ≡ true → frameModel m first second third .dtr0 ≡ third
+  frame-loaded l = ap (λ (x : Model). x .dtr0) (frame-loads l .0)
+
+  frame-by : (P : Model → Type 0)
+      → P (underWay (withDtr0 third m)) → P (numberedModel m second third) → P (underWay m)
+      → P (frameModel m first second third)
+  unfolding frameModel
+  frame-by P load numbered ignore = go (loads first second) (counts m first second)
+    where
+      go : (l k : Bool)
+          → P (cond l (underWay (withDtr0 third m)) (cond k (numberedModel m second third) (underWay m)))
+      go true k = load
+      go false true = numbered
+      go false false = ignore
+
+  pub frame-tick : frameModel m first second third .tick ≡ m .tick
+  frame-tick = frame-by (λ (x : Model). x .tick ≡ m .tick) refl (numbered-tick m second third) refl
+
+  -- DTR0 is loaded by C1 30 d alone
+  pub frame-dtr0 : loads first second ≡ false → frameModel m first second third .dtr0 ≡ m .dtr0
+  unfolding frameModel numberedModel
+  frame-dtr0 l = rw l (go (counts m first second))
+    where
+      go : (k : Bool) → cond k (numberedModel m second third) (underWay m) .dtr0 ≡ m .dtr0
+      go true = refl
+      go false = refl
+
+  pub frame-declared : frameModel m first second third .declared ≡ m .declared
+  frame-declared = frame-by (λ (x : Model). x .declared ≡ m .declared) refl (numbered-declared m second third) refl
+
+  pub frame-running : frameModel m first second third .running ≡ true
+  frame-running = frame-by (λ (x : Model). x .running ≡ true) refl (numbered-running m second third) refl
+
+  pub frame-length : length (frameModel m first second third .instances) ≡ length (m .instances)
+  frame-length = frame-by (λ (x : Model). length (x .instances) ≡ length (m .instances)) refl (numbered-length m second third) refl
+
+  -- the instance that a frame counts for is as byte 3 leaves it
+  pub frame-here : length (m .instances) ≡ 16 → loads first second ≡ false → counts m first second ≡ true
+      → instanceAt (frameModel m first second third) second ≡ actedAt m second third .instance
+  frame-here all l k = rw (frame-counts l k .0) (numbered-here m second third all (counts-known m first second k))
+
+  -- no frame changes an instance but the one that byte 2 names
+  pub frame-other : (j : ℕ) → j ≢ second → instanceAt (frameModel m first second third) j ≡ instanceAt m j
+  unfolding instanceAt
+  frame-other j ne =
+      frame-by (λ (x : Model). getD (x .instances) j sensors.blank ≡ getD (m .instances) j sensors.blank) refl (numbered-other m second third j ne) refl

@@ -1,0 +1,5 @@
+pub mod Laws
+pub mod Tail
+mod Numbered
+pub mod Instances
+pub mod Unique

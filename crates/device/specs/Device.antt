@@ -1,0 +1,70 @@
+-- Document 01, "The bench model" and "Session and log records": the device, declarations and samples.
+-- Assumes nothing.
+use Prim.Native.Nat.{ℕ, _+_}
+use Rattle.device.specs.declared.model.Model.{Model}
+use Rattle.device.specs.declared.model.Offered.{Offered}
+use Rattle.record.specs.Log.{Logged, bytesOf}
+use Rattle.sensor.specs.Fresh as sensors
+use Rattle.sensor.specs.Kind.{allows}
+use Rattle.sensor.specs.Tick.{holding}
+use Rattle.sensor.specs.declared.instance.Instance.{Instance}
+use Rattle.sensor.specs.declared.settings.Sample.{Sample}
+use lib.Dec.{leb, ltb}
+use lib.ListN.{getD, length, replicate, set}
+use mathlib.Core.Bool.{Bool, cond, false, true, _&&_}
+use mathlib.Core.List.{List}
+
+-- ---- the model with one part changed: only these list every part, and other definitions compose them
+abbrev pub withTick : ℕ → Model → Model
+withTick tick m = record { tick = tick; dtr0 = m .dtr0; declared = m .declared; running = m .running; instances = m .instances }
+
+abbrev pub withDtr0 : ℕ → Model → Model
+withDtr0 dtr0 m = record { tick = m .tick; dtr0 = dtr0; declared = m .declared; running = m .running; instances = m .instances }
+
+abbrev pub withDeclared : ℕ → Model → Model
+withDeclared n m = record { tick = m .tick; dtr0 = m .dtr0; declared = n; running = m .running; instances = m .instances }
+
+abbrev pub withInstances : List Instance → Model → Model
+withInstances xs m = record { tick = m .tick; dtr0 = m .dtr0; declared = m .declared; running = m .running; instances = xs }
+
+-- a record that is no IN was taken, and declarations are over
+abbrev pub underWay : Model → Model
+underWay m = record { tick = m .tick; dtr0 = m .dtr0; declared = m .declared; running = true; instances = m .instances }
+
+-- the model at the start: tick 0, DTR0 0, no instance declared
+unfoldable pub fresh : Model
+fresh = record { tick = 0; dtr0 = 0; declared = 0; running = false; instances = replicate 16 (sensors.declared 4 1) }
+
+-- ---- who is declared
+unfoldable pub known : Model → (i : ℕ) → Bool
+known m i = ltb i (m .declared) && ltb i 16
+
+-- instance i, and what stands where there is none
+unfoldable pub instanceAt : Model → (i : ℕ) → Instance
+instanceAt m i = getD (m .instances) i sensors.blank
+
+-- instance i, as something leaves it
+abbrev pub withInstance : (i : ℕ) → Instance → Model → Model
+withInstance i x m = withInstances (set (m .instances) i x) m
+
+-- IN: the next instance; there is no seventeenth
+unfoldable pub declaredModel : Model → (type resolution : ℕ) → Model
+declaredModel m type resolution =
+    cond (ltb (m .declared) 16)
+    (withDeclared (m .declared + 1) (withInstance (m .declared) (sensors.declared type resolution) m))
+    m
+
+-- the sample is one that instance i's type takes; of an instance that there cannot be, none is
+unfoldable pub allowed : Model → (i : ℕ) → Sample → Bool
+allowed m i sample = cond (ltb i 16) (allows (instanceAt m i .kind) sample) false
+
+-- SA: instance i holds the sample
+unfoldable pub heldModel : Model → (i : ℕ) → Sample → Model
+heldModel m i sample = underWay (withInstance i (holding (instanceAt m i) sample) m)
+
+-- a change that logs is taken where its records fit, whole, in the room that is left; else nothing changes
+unfoldable pub offered : Model → (after : Model) → (log : List Logged) → (room : ℕ) → Offered
+offered m after log room =
+    cond (leb (length (bytesOf log)) room)
+    (record { model = after; written = length (bytesOf log); fits = true })
+    (record { model = m; written = 0; fits = false })

@@ -1,0 +1,2 @@
+pub mod Device
+pub mod Frame

@@ -1,0 +1,71 @@
+// The device by value: who is declared, and which samples they take.
+use sensor::Instance;
+use sensor::Sample;
+ghost use Rattle.device.specs.Device.{allowed, declaredModel, fresh, known};
+ghost use mathlib.Core.Path.{_≡_};
+
+// running: a record that is no IN was taken, and declarations are over. declared: how many instances are.
+pub struct Model {
+    pub tick: u32,
+    pub dtr0: u8,
+    pub declared: u8,
+    pub running: bool,
+    pub instances: [Instance; 16],
+}
+
+// What came of a change that logs: the model after it and the bytes written; where these do not fit, the model as it was.
+pub struct Offered {
+    pub model: Model,
+    pub written: usize,
+    pub fits: bool,
+}
+
+// The model at the start of a session.
+pub fn fresh() -> Model
+    ensures { λ r. ⌜ r ≡ fresh ⌝ }
+{
+    let nobody = Instance::declared(4, 1);
+    Model {
+        tick: 0,
+        dtr0: 0,
+        declared: 0,
+        running: false,
+        instances: [nobody; 16],
+    }
+}
+
+// The instance is declared.
+pub fn known(model: Model, instance: u8) -> bool
+    ensures { λ r. ⌜ r ≡ known model instance ⌝ }
+{
+    (instance < model.declared) & (instance < 16)
+}
+
+// IN: the next instance, of that type. There is no seventeenth.
+pub fn declare(model: Model, sensor_type: u8, resolution: u8) -> Model
+    ensures { λ r. ⌜ r ≡ declaredModel model «sensor_type» resolution ⌝ }
+{
+    let next = model.declared;
+    let i = next as usize;
+    let mut m = model;
+    if i < 16 {
+        let x = Instance::declared(sensor_type, resolution);
+        m.instances[i] = x;
+        m.declared = next + 1;
+    }
+    m
+}
+
+// The sample is one that the instance's type takes. Of an instance that there cannot be, none is.
+pub fn allows(model: Model, instance: u8, sample: Sample) -> bool
+    ensures { λ r. ⌜ r ≡ allowed model instance sample ⌝ }
+{
+    let i = instance as usize;
+    if i < 16 {
+        let x = model.instances[i];
+        let kind = x.kind;
+        kind.allows(sample)
+    } else {
+        false
+    }
+}

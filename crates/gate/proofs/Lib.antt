@@ -1,4 +1,0 @@
-pub mod Laws
-pub mod Spaced
-pub mod Pace
-pub mod Quiet

@@ -1,4 +1,0 @@
-pub mod Timers
-pub mod Gate
-pub mod Pace
-pub mod Quiet

@@ -1,0 +1,25 @@
+-- Document 01, "Numbers given when a record is not taken": the number of each refusal. 0 is given when all records are taken.
+-- Assumes nothing.
+use Prim.Native.Nat.{ℕ}
+use Rattle.judging.specs.declared.asked.Refusal.the-variants.{BadSample, Cut, Full, LateOrSkipped, NoSuchSensor, NoTicks, TimeOver, Undeclared, UnknownMark}
+use Rattle.judging.specs.declared.asked.Refusal.{Refusal}
+
+unfoldable pub numberOf : Refusal → ℕ
+-- mark unknown
+numberOf UnknownMark = 1
+-- fewer bytes remain than the mark, or the record, needs
+numberOf Cut = 2
+-- IN after a record of another kind, or its number isn't the next, from 0
+numberOf LateOrSkipped = 3
+-- IN number 16 or above; a type and resolution that are not modelled
+numberOf NoSuchSensor = 4
+-- SA for an undeclared instance
+numberOf Undeclared = 5
+-- SA status or value not allowed
+numberOf BadSample = 6
+-- TK count 0
+numberOf NoTicks = 7
+-- tick number would pass 4,294,967,295
+numberOf TimeOver = 8
+-- the records of one tick, or one answer, don't fit in the output that is left
+numberOf Full = 9

@@ -1,0 +1,3 @@
+mod Cases
+pub mod Opcodes
+pub mod Unique

@@ -1,0 +1,87 @@
+-- Document 01, "Frames": the tables are right both ways. Each opcode of a table means what its row says, and any other number is ignored. Proved
+-- once, of any table in which no opcode stands twice.
+-- Assumes nothing.
+use Prim.Native.Nat.{ℕ}
+use Rattle.opcode.specs.Meaning.{Case, isSetting, lightCases, lightMeaning, meantIn, occupancyCases, occupancyMeaning}
+use Rattle.opcode.specs.declared.meanings.Meaning.the-variants.{Ignored}
+use Rattle.opcode.specs.declared.meanings.Meaning.{Meaning}
+use Rattle.sensor.proofs.Table.{both, each, every}
+use borrow.Author.Tests.{eq-eqb, eqb-true}
+use lib.Dec.{T, eqb}
+use mathlib.Core.Bool.{Bool, cond, false, not, true, _&&_}
+use mathlib.Core.List.{List, List·Memᴰ, List·Memᴰ·head, List·Memᴰ·not-nil, List·Memᴰ·tail, [], _∷_}
+use mathlib.Core.Logic.{_⊎_, inl, inr}
+use mathlib.Core.Path.{_≡_, ap, refl, sym}
+
+-- ---- any table
+-- no opcode stands in it twice
+abbrev another : (n : ℕ) → Case → Bool
+another n c = not (eqb (c .opcode) n)
+
+abbrev pub distinct : List Case → Bool
+distinct [] = true
+distinct (c ∷ cs) = every (another (c .opcode)) cs && distinct cs
+
+is-not : (b : Bool) → T (not b) → b ≡ false
+is-not true t = absurd t
+is-not false t = refl
+
+-- each of its opcodes means what its row says
+pub right : (cs : List Case) → T (distinct cs) → (c : Case) → List·Memᴰ c cs → meantIn cs (c .opcode) ≡ c .means
+unfolding meantIn
+right [] t c m = absurd (List·Memᴰ·not-nil m)
+right (d ∷ cs) t c (List·Memᴰ·head e) = rw (eq-eqb (c .opcode) (d .opcode) (ap (λ x. x .opcode) e)) (sym (ap (λ x. x .means) e))
+right (d ∷ cs) t c (List·Memᴰ·tail m) =
+    let p = both (every (another (d .opcode)) cs) (distinct cs) t in
+    rw (is-not (eqb (c .opcode) (d .opcode)) (each (another (d .opcode)) cs (p .0) c m)) (right cs (p .1) c m)
+
+-- any other number is ignored: one that is not has a row
+abbrev row : (n : ℕ) → Meaning → Case
+row n m = record { opcode = n; means = m }
+
+abbrev Else : List Case → (n : ℕ) → Meaning → Type 0
+Else cs n m = (m ≡ Ignored) ⊎ List·Memᴰ (row n m) cs
+
+further : (c : Case) (cs : List Case) (n : ℕ) (m : Meaning) → Else cs n m → Else (c ∷ cs) n m
+further c cs n m (inl e) = inl e
+further c cs n m (inr h) = inr (List·Memᴰ·tail h)
+
+chosen : (c : Case) (cs : List Case) (n : ℕ) (m : Meaning) (b : Bool) → eqb n (c .opcode) ≡ b → Else cs n m → Else (c ∷ cs) n (cond b (c .means) m)
+chosen c cs n m true e h = inr (List·Memᴰ·head (ap (λ k. row k (c .means)) (eqb-true n (c .opcode) e)))
+chosen c cs n m false e h = further c cs n m h
+
+pub else : (cs : List Case) (n : ℕ) → (meantIn cs n ≡ Ignored) ⊎ List·Memᴰ (row n (meantIn cs n)) cs
+unfolding meantIn
+else [] n = inl refl
+else (c ∷ cs) n = chosen c cs n (meantIn cs n) (eqb n (c .opcode)) refl (else cs n)
+
+-- ---- light
+pub light-right : (c : Case) → List·Memᴰ c lightCases → lightMeaning (c .opcode) ≡ c .means
+unfolding lightMeaning
+light-right c m = right lightCases tt c m
+
+pub light-else : (n : ℕ) → (lightMeaning n ≡ Ignored) ⊎ List·Memᴰ (row n (lightMeaning n)) lightCases
+unfolding lightMeaning
+light-else n = else lightCases n
+
+-- ---- occupancy
+pub occupancy-right : (c : Case) → List·Memᴰ c occupancyCases → occupancyMeaning (c .opcode) ≡ c .means
+unfolding occupancyMeaning
+occupancy-right c m = right occupancyCases tt c m
+
+pub occupancy-else : (n : ℕ) → (occupancyMeaning n ≡ Ignored) ⊎ List·Memᴰ (row n (occupancyMeaning n)) occupancyCases
+unfolding occupancyMeaning
+occupancy-else n = else occupancyCases n
+
+-- ---- setting commands are the set opcodes 30 to 33 (light) and 22, 23 (occupancy), and 61, 62, 63, 68
+abbrev pub settingOpcodes : List Case → List ℕ
+settingOpcodes [] = []
+settingOpcodes (c ∷ cs) = cond (isSetting (c .means)) (c .opcode ∷ settingOpcodes cs) (settingOpcodes cs)
+
+pub light-settings : settingOpcodes lightCases ≡ 0x30 ∷ 0x31 ∷ 0x32 ∷ 0x33 ∷ 0x61 ∷ 0x62 ∷ 0x63 ∷ 0x68 ∷ []
+unfolding isSetting
+light-settings = refl
+
+pub occupancy-settings : settingOpcodes occupancyCases ≡ 0x22 ∷ 0x23 ∷ 0x61 ∷ 0x62 ∷ 0x63 ∷ 0x68 ∷ []
+unfolding isSetting
+occupancy-settings = refl

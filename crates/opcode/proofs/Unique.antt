@@ -1,0 +1,20 @@
+-- UNIQUENESS: any two results, with all that was lent, that satisfy an exported function's promise for the same arguments are equal. `Post` is
+-- the promise itself, as the checker reads the function's `ensures`.
+-- Assumes nothing.
+use Rattle.opcode.proofs.light_meaning.Kinds as light-meaning-kinds
+use Rattle.opcode.proofs.light_meaning.Reads as light-meaning
+use Rattle.opcode.proofs.meaning.Kinds as meaning-kinds
+use Rattle.opcode.proofs.meaning.Reads as meaning
+use Rattle.opcode.proofs.occupancy_meaning.Kinds as occupancy-meaning-kinds
+use Rattle.opcode.proofs.occupancy_meaning.Reads as occupancy-meaning
+use Rattle.promise.specs.Unique.{Unique}
+use mathlib.Core.Path.{sym, _∙_}
+
+pub light-meaning-unique : Unique 0 light-meaning-kinds.ps light-meaning-kinds.r light-meaning.Post
+light-meaning-unique κs a x y s t p q = p ∙ sym q
+
+pub occupancy-meaning-unique : Unique 0 occupancy-meaning-kinds.ps occupancy-meaning-kinds.r occupancy-meaning.Post
+occupancy-meaning-unique κs a x y s t p q = p ∙ sym q
+
+pub meaning-unique : Unique 0 meaning-kinds.ps meaning-kinds.r meaning.Post
+meaning-unique κs a x y s t p q = p ∙ sym q

@@ -1,0 +1,89 @@
+-- Document 01, "Frames": the opcodes of each type, and the command or query that each means. Any other byte is ignored.
+-- Assumes nothing.
+use Prim.Native.Nat.{ℕ}
+use Rattle.opcode.specs.declared.meanings.Command.the-variants.{Disable, Enable, SetDeadtime, SetFilter, SetHysteresis, SetHysteresisMin, SetPriority, SetReport}
+use Rattle.opcode.specs.declared.meanings.Command.{Command}
+use Rattle.opcode.specs.declared.meanings.Meaning.the-variants.{Ask, Ignored, Set}
+use Rattle.opcode.specs.declared.meanings.Meaning.{Meaning}
+use Rattle.opcode.specs.declared.meanings.Query.the-variants.{QueryNext, QueryValue, QueryVariable}
+use Rattle.opcode.specs.declared.meanings.Query.{Query}
+use Rattle.opcode.specs.declared.meanings.Variable.the-variants.{Deadtime, Enabled, Error, Filter, Hysteresis, HysteresisMin, Priority, Report, Resolution, SensorType, Status}
+use Rattle.sensor.specs.declared.kind.Kind.the-variants.{Light, Occupancy}
+use Rattle.sensor.specs.declared.kind.Kind.{Kind}
+use lib.Dec.{eqb}
+use mathlib.Core.Bool.{Bool, cond, false, true}
+use mathlib.Core.List.{List, [], _∷_}
+
+-- a row of a table: an opcode, and what it means
+pub record Case : Type 0 where
+  pub opcode : ℕ
+  pub means : Meaning
+
+abbrev pub sets : (opcode : ℕ) → Command → Case
+sets n command = record { opcode = n; means = Set command }
+
+abbrev pub asks : (opcode : ℕ) → Query → Case
+asks n query = record { opcode = n; means = Ask query }
+
+-- ---- the tables
+-- both types
+abbrev pub bothCases : List Case
+bothCases =
+    sets 0x61 SetPriority
+    ∷ sets 0x62 Enable
+    ∷ sets 0x63 Disable
+    ∷ sets 0x68 SetFilter
+    ∷ asks 0x80 (QueryVariable SensorType)
+    ∷ asks 0x81 (QueryVariable Resolution)
+    ∷ asks 0x82 (QueryVariable Error)
+    ∷ asks 0x83 (QueryVariable Status)
+    ∷ asks 0x84 (QueryVariable Priority)
+    ∷ asks 0x86 (QueryVariable Enabled)
+    ∷ asks 0x8C QueryValue
+    ∷ asks 0x8D QueryNext
+    ∷ asks 0x90 (QueryVariable Filter)
+    ∷ []
+
+-- light
+abbrev pub lightCases : List Case
+lightCases =
+    sets 0x30 SetReport
+    ∷ sets 0x31 SetHysteresis
+    ∷ sets 0x32 SetDeadtime
+    ∷ sets 0x33 SetHysteresisMin
+    ∷ asks 0x3C (QueryVariable HysteresisMin)
+    ∷ asks 0x3D (QueryVariable Deadtime)
+    ∷ asks 0x3E (QueryVariable Report)
+    ∷ asks 0x3F (QueryVariable Hysteresis)
+    ∷ bothCases
+
+-- occupancy
+abbrev pub occupancyCases : List Case
+occupancyCases =
+    sets 0x22 SetReport
+    ∷ sets 0x23 SetDeadtime
+    ∷ asks 0x2C (QueryVariable Deadtime)
+    ∷ asks 0x2E (QueryVariable Report)
+    ∷ bothCases
+
+-- ---- what byte 3 means
+-- the row of a table whose opcode is n: the first; where there is none it is ignored
+unfoldable pub meantIn : List Case → (n : ℕ) → Meaning
+meantIn [] n = Ignored
+meantIn (c ∷ cs) n = cond (eqb n (c .opcode)) (c .means) (meantIn cs n)
+
+unfoldable pub lightMeaning : (n : ℕ) → Meaning
+lightMeaning n = meantIn lightCases n
+
+unfoldable pub occupancyMeaning : (n : ℕ) → Meaning
+occupancyMeaning n = meantIn occupancyCases n
+
+unfoldable pub meaning : Kind → (n : ℕ) → Meaning
+meaning (Light l) n = lightMeaning n
+meaning (Occupancy o) n = occupancyMeaning n
+
+-- a setting command: 61, 62, 63, 68 and the set opcodes 30 to 33 (light) and 22, 23 (occupancy)
+unfoldable pub isSetting : Meaning → Bool
+isSetting (Set command) = true
+isSetting (Ask query) = false
+isSetting Ignored = false

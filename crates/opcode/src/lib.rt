@@ -1,0 +1,91 @@
+// The command or query that byte 3 of a frame means (document 01, "Frames"): one decision for each type, by the opcodes that the type carries and
+// those that both have, in the order of the type's table in specs/Meaning.antt.
+mod meanings;
+
+pub use meanings::Command;
+pub use meanings::Meaning;
+pub use meanings::Query;
+pub use meanings::Variable;
+use sensor::Kind;
+use sensor::Light;
+use sensor::Occupancy;
+ghost use Rattle.opcode.specs.Meaning.{lightMeaning, meaning, occupancyMeaning};
+ghost use mathlib.Core.Path.{_≡_};
+
+pub fn light_meaning(opcode: u8) -> Meaning
+    ensures { λ r. ⌜ r ≡ lightMeaning opcode ⌝ }
+{
+    match opcode {
+        Light::SET_REPORT => Meaning::Set(Command::SetReport),
+        Light::SET_HYSTERESIS => Meaning::Set(Command::SetHysteresis),
+        Light::SET_DEADTIME => Meaning::Set(Command::SetDeadtime),
+        Light::SET_HYSTERESIS_MIN => Meaning::Set(Command::SetHysteresisMin),
+        Light::QUERY_HYSTERESIS_MIN => Meaning::Ask(Query::QueryVariable(Variable::HysteresisMin)),
+        Light::QUERY_DEADTIME => Meaning::Ask(Query::QueryVariable(Variable::Deadtime)),
+        Light::QUERY_REPORT => Meaning::Ask(Query::QueryVariable(Variable::Report)),
+        Light::QUERY_HYSTERESIS => Meaning::Ask(Query::QueryVariable(Variable::Hysteresis)),
+        Kind::SET_PRIORITY => Meaning::Set(Command::SetPriority),
+        Kind::ENABLE => Meaning::Set(Command::Enable),
+        Kind::DISABLE => Meaning::Set(Command::Disable),
+        Kind::SET_FILTER => Meaning::Set(Command::SetFilter),
+        Kind::QUERY_TYPE => Meaning::Ask(Query::QueryVariable(Variable::SensorType)),
+        Kind::QUERY_RESOLUTION => Meaning::Ask(Query::QueryVariable(Variable::Resolution)),
+        Kind::QUERY_ERROR => Meaning::Ask(Query::QueryVariable(Variable::Error)),
+        Kind::QUERY_STATUS => Meaning::Ask(Query::QueryVariable(Variable::Status)),
+        Kind::QUERY_PRIORITY => Meaning::Ask(Query::QueryVariable(Variable::Priority)),
+        Kind::QUERY_ENABLED => Meaning::Ask(Query::QueryVariable(Variable::Enabled)),
+        Kind::QUERY_VALUE => Meaning::Ask(Query::QueryValue),
+        Kind::QUERY_NEXT => Meaning::Ask(Query::QueryNext),
+        Kind::QUERY_FILTER => Meaning::Ask(Query::QueryVariable(Variable::Filter)),
+        0x00..=0x2F
+        | 0x34..=0x3B
+        | 0x40..=0x60
+        | 0x64..=0x67
+        | 0x69..=0x7F
+        | 0x85..=0x8B
+        | 0x8E..=0x8F
+        | 0x91..=0xFF => { Meaning::Ignored }
+    }
+}
+
+pub fn occupancy_meaning(opcode: u8) -> Meaning
+    ensures { λ r. ⌜ r ≡ occupancyMeaning opcode ⌝ }
+{
+    match opcode {
+        Occupancy::SET_REPORT => Meaning::Set(Command::SetReport),
+        Occupancy::SET_DEADTIME => Meaning::Set(Command::SetDeadtime),
+        Occupancy::QUERY_DEADTIME => Meaning::Ask(Query::QueryVariable(Variable::Deadtime)),
+        Occupancy::QUERY_REPORT => Meaning::Ask(Query::QueryVariable(Variable::Report)),
+        Kind::SET_PRIORITY => Meaning::Set(Command::SetPriority),
+        Kind::ENABLE => Meaning::Set(Command::Enable),
+        Kind::DISABLE => Meaning::Set(Command::Disable),
+        Kind::SET_FILTER => Meaning::Set(Command::SetFilter),
+        Kind::QUERY_TYPE => Meaning::Ask(Query::QueryVariable(Variable::SensorType)),
+        Kind::QUERY_RESOLUTION => Meaning::Ask(Query::QueryVariable(Variable::Resolution)),
+        Kind::QUERY_ERROR => Meaning::Ask(Query::QueryVariable(Variable::Error)),
+        Kind::QUERY_STATUS => Meaning::Ask(Query::QueryVariable(Variable::Status)),
+        Kind::QUERY_PRIORITY => Meaning::Ask(Query::QueryVariable(Variable::Priority)),
+        Kind::QUERY_ENABLED => Meaning::Ask(Query::QueryVariable(Variable::Enabled)),
+        Kind::QUERY_VALUE => Meaning::Ask(Query::QueryValue),
+        Kind::QUERY_NEXT => Meaning::Ask(Query::QueryNext),
+        Kind::QUERY_FILTER => Meaning::Ask(Query::QueryVariable(Variable::Filter)),
+        0x00..=0x21
+        | 0x24..=0x2B
+        | 0x2D..=0x60
+        | 0x64..=0x67
+        | 0x69..=0x7F
+        | 0x85..=0x8B
+        | 0x8E..=0x8F
+        | 0x91..=0xFF => Meaning::Ignored,
+    }
+}
+
+// The decision of the instance's own type.
+pub fn meaning(kind: Kind, opcode: u8) -> Meaning
+    ensures { λ r. ⌜ r ≡ meaning kind opcode ⌝ }
+{
+    match kind {
+        Kind::Light(_) => light_meaning(opcode),
+        Kind::Occupancy(_) => occupancy_meaning(opcode),
+    }
+}

@@ -1,0 +1,215 @@
+-- UNIQUENESS: any two results, with all that was lent, that satisfy an exported function's promise for the same arguments are equal. `Post` is
+-- the promise itself, as the checker reads the function's `ensures`.
+-- Assumes nothing.
+use Rattle.promise.specs.Unique.{Unique}
+use Rattle.sensor.proofs.instance.Instance.declared.Kinds as Instance-declared-kinds
+use Rattle.sensor.proofs.instance.Instance.declared.Reads as Instance-declared
+use Rattle.sensor.proofs.instance.Instance.fresh.Kinds as Instance-fresh-kinds
+use Rattle.sensor.proofs.instance.Instance.fresh.Reads as Instance-fresh
+use Rattle.sensor.proofs.instance.Instance.holding.Kinds as Instance-holding-kinds
+use Rattle.sensor.proofs.instance.Instance.holding.Reads as Instance-holding
+use Rattle.sensor.proofs.instance.Instance.quiet_for.Kinds as Instance-quiet-for-kinds
+use Rattle.sensor.proofs.instance.Instance.quiet_for.Reads as Instance-quiet-for
+use Rattle.sensor.proofs.instance.Instance.rested.Kinds as Instance-rested-kinds
+use Rattle.sensor.proofs.instance.Instance.rested.Reads as Instance-rested
+use Rattle.sensor.proofs.instance.Instance.tick.Kinds as Instance-tick-kinds
+use Rattle.sensor.proofs.instance.Instance.tick.Reads as Instance-tick
+use Rattle.sensor.proofs.kind.Kind.allowing.Kinds as Kind-allowing-kinds
+use Rattle.sensor.proofs.kind.Kind.allowing.Reads as Kind-allowing
+use Rattle.sensor.proofs.kind.Kind.allows.Kinds as Kind-allows-kinds
+use Rattle.sensor.proofs.kind.Kind.allows.Reads as Kind-allows
+use Rattle.sensor.proofs.kind.Kind.cause.Kinds as Kind-cause-kinds
+use Rattle.sensor.proofs.kind.Kind.cause.Reads as Kind-cause
+use Rattle.sensor.proofs.kind.Kind.information.Kinds as Kind-information-kinds
+use Rattle.sensor.proofs.kind.Kind.information.Reads as Kind-information
+use Rattle.sensor.proofs.kind.Kind.input.Kinds as Kind-input-kinds
+use Rattle.sensor.proofs.kind.Kind.input.Reads as Kind-input
+use Rattle.sensor.proofs.kind.Kind.kept.Kinds as Kind-kept-kinds
+use Rattle.sensor.proofs.kind.Kind.kept.Reads as Kind-kept
+use Rattle.sensor.proofs.kind.Kind.repeat.Kinds as Kind-repeat-kinds
+use Rattle.sensor.proofs.kind.Kind.repeat.Reads as Kind-repeat
+use Rattle.sensor.proofs.kind.Kind.resolution.Kinds as Kind-resolution-kinds
+use Rattle.sensor.proofs.kind.Kind.resolution.Reads as Kind-resolution
+use Rattle.sensor.proofs.kind.Kind.rules.Kinds as Kind-rules-kinds
+use Rattle.sensor.proofs.kind.Kind.rules.Reads as Kind-rules
+use Rattle.sensor.proofs.kind.Kind.sensor_type.Kinds as Kind-sensor-type-kinds
+use Rattle.sensor.proofs.kind.Kind.sensor_type.Reads as Kind-sensor-type
+use Rattle.sensor.proofs.kind.Kind.sent.Kinds as Kind-sent-kinds
+use Rattle.sensor.proofs.kind.Kind.sent.Reads as Kind-sent
+use Rattle.sensor.proofs.kind.Kind.settled.Kinds as Kind-settled-kinds
+use Rattle.sensor.proofs.kind.Kind.settled.Reads as Kind-settled
+use Rattle.sensor.proofs.kind.Kind.taken.Kinds as Kind-taken-kinds
+use Rattle.sensor.proofs.kind.Kind.taken.Reads as Kind-taken
+use Rattle.sensor.proofs.kind.Kind.units.Kinds as Kind-units-kinds
+use Rattle.sensor.proofs.kind.Kind.units.Reads as Kind-units
+use Rattle.sensor.proofs.light.Band.moved.Kinds as Band-moved-kinds
+use Rattle.sensor.proofs.light.Band.moved.Reads as Band-moved
+use Rattle.sensor.proofs.light.Band.outside.Kinds as Band-outside-kinds
+use Rattle.sensor.proofs.light.Band.outside.Reads as Band-outside
+use Rattle.sensor.proofs.light.Light.allows.Kinds as Light-allows-kinds
+use Rattle.sensor.proofs.light.Light.allows.Reads as Light-allows
+use Rattle.sensor.proofs.light.Light.cause.Kinds as Light-cause-kinds
+use Rattle.sensor.proofs.light.Light.cause.Reads as Light-cause
+use Rattle.sensor.proofs.light.Light.fresh.Kinds as Light-fresh-kinds
+use Rattle.sensor.proofs.light.Light.fresh.Reads as Light-fresh
+use Rattle.sensor.proofs.light.Light.information.Kinds as Light-information-kinds
+use Rattle.sensor.proofs.light.Light.information.Reads as Light-information
+use Rattle.sensor.proofs.light.Light.input.Kinds as Light-input-kinds
+use Rattle.sensor.proofs.light.Light.input.Reads as Light-input
+use Rattle.sensor.proofs.light.Light.repeat.Kinds as Light-repeat-kinds
+use Rattle.sensor.proofs.light.Light.repeat.Reads as Light-repeat
+use Rattle.sensor.proofs.light.Light.sent.Kinds as Light-sent-kinds
+use Rattle.sensor.proofs.light.Light.sent.Reads as Light-sent
+use Rattle.sensor.proofs.light.Light.settled.Kinds as Light-settled-kinds
+use Rattle.sensor.proofs.light.Light.settled.Reads as Light-settled
+use Rattle.sensor.proofs.light.Light.taken.Kinds as Light-taken-kinds
+use Rattle.sensor.proofs.light.Light.taken.Reads as Light-taken
+use Rattle.sensor.proofs.modelled.Kinds as modelled-kinds
+use Rattle.sensor.proofs.modelled.Reads as modelled
+use Rattle.sensor.proofs.occupancy.Occupancy.allowing.Kinds as Occupancy-allowing-kinds
+use Rattle.sensor.proofs.occupancy.Occupancy.allowing.Reads as Occupancy-allowing
+use Rattle.sensor.proofs.occupancy.Occupancy.allows.Kinds as Occupancy-allows-kinds
+use Rattle.sensor.proofs.occupancy.Occupancy.allows.Reads as Occupancy-allows
+use Rattle.sensor.proofs.occupancy.Occupancy.cause.Kinds as Occupancy-cause-kinds
+use Rattle.sensor.proofs.occupancy.Occupancy.cause.Reads as Occupancy-cause
+use Rattle.sensor.proofs.occupancy.Occupancy.fresh.Kinds as Occupancy-fresh-kinds
+use Rattle.sensor.proofs.occupancy.Occupancy.fresh.Reads as Occupancy-fresh
+use Rattle.sensor.proofs.occupancy.Occupancy.information.Kinds as Occupancy-information-kinds
+use Rattle.sensor.proofs.occupancy.Occupancy.information.Reads as Occupancy-information
+use Rattle.sensor.proofs.occupancy.Occupancy.input.Kinds as Occupancy-input-kinds
+use Rattle.sensor.proofs.occupancy.Occupancy.input.Reads as Occupancy-input
+use Rattle.sensor.proofs.occupancy.Occupancy.repeat.Kinds as Occupancy-repeat-kinds
+use Rattle.sensor.proofs.occupancy.Occupancy.repeat.Reads as Occupancy-repeat
+use Rattle.sensor.proofs.occupancy.Occupancy.sent.Kinds as Occupancy-sent-kinds
+use Rattle.sensor.proofs.occupancy.Occupancy.sent.Reads as Occupancy-sent
+use Rattle.sensor.proofs.occupancy.Occupancy.settled.Kinds as Occupancy-settled-kinds
+use Rattle.sensor.proofs.occupancy.Occupancy.settled.Reads as Occupancy-settled
+use Rattle.sensor.proofs.occupancy.Occupancy.taken.Kinds as Occupancy-taken-kinds
+use Rattle.sensor.proofs.occupancy.Occupancy.taken.Reads as Occupancy-taken
+use mathlib.Core.Path.{sym, _∙_}
+
+pub Instance-fresh-unique : Unique 0 Instance-fresh-kinds.ps Instance-fresh-kinds.r Instance-fresh.Post
+Instance-fresh-unique κs a x y s t p q = p ∙ sym q
+
+pub Instance-declared-unique : Unique 0 Instance-declared-kinds.ps Instance-declared-kinds.r Instance-declared.Post
+Instance-declared-unique κs a x y s t p q = p ∙ sym q
+
+pub Instance-holding-unique : Unique 0 Instance-holding-kinds.ps Instance-holding-kinds.r Instance-holding.Post
+Instance-holding-unique κs a x y s t p q = p ∙ sym q
+
+pub Instance-tick-unique : Unique 0 Instance-tick-kinds.ps Instance-tick-kinds.r Instance-tick.Post
+Instance-tick-unique κs a x y s t p q = p ∙ sym q
+
+pub Instance-quiet-for-unique : Unique 0 Instance-quiet-for-kinds.ps Instance-quiet-for-kinds.r Instance-quiet-for.Post
+Instance-quiet-for-unique κs a x y s t p q = p ∙ sym q
+
+pub Instance-rested-unique : Unique 0 Instance-rested-kinds.ps Instance-rested-kinds.r Instance-rested.Post
+Instance-rested-unique κs a x y s t p q = p ∙ sym q
+
+pub Kind-units-unique : Unique 0 Kind-units-kinds.ps Kind-units-kinds.r Kind-units.Post
+Kind-units-unique κs a x y s t p q = p ∙ sym q
+
+pub Kind-taken-unique : Unique 0 Kind-taken-kinds.ps Kind-taken-kinds.r Kind-taken.Post
+Kind-taken-unique κs a x y s t p q = p ∙ sym q
+
+pub Kind-cause-unique : Unique 0 Kind-cause-kinds.ps Kind-cause-kinds.r Kind-cause.Post
+Kind-cause-unique κs a x y s t p q = p ∙ sym q
+
+pub Kind-repeat-unique : Unique 0 Kind-repeat-kinds.ps Kind-repeat-kinds.r Kind-repeat.Post
+Kind-repeat-unique κs a x y s t p q = p ∙ sym q
+
+pub Kind-sent-unique : Unique 0 Kind-sent-kinds.ps Kind-sent-kinds.r Kind-sent.Post
+Kind-sent-unique κs a x y s t p q = p ∙ sym q
+
+pub Kind-information-unique : Unique 0 Kind-information-kinds.ps Kind-information-kinds.r Kind-information.Post
+Kind-information-unique κs a x y s t p q = p ∙ sym q
+
+pub Kind-rules-unique : Unique 0 Kind-rules-kinds.ps Kind-rules-kinds.r Kind-rules.Post
+Kind-rules-unique κs a x y s t p q = p ∙ sym q
+
+pub Kind-sensor-type-unique : Unique 0 Kind-sensor-type-kinds.ps Kind-sensor-type-kinds.r Kind-sensor-type.Post
+Kind-sensor-type-unique κs a x y s t p q = p ∙ sym q
+
+pub Kind-resolution-unique : Unique 0 Kind-resolution-kinds.ps Kind-resolution-kinds.r Kind-resolution.Post
+Kind-resolution-unique κs a x y s t p q = p ∙ sym q
+
+pub Kind-kept-unique : Unique 0 Kind-kept-kinds.ps Kind-kept-kinds.r Kind-kept.Post
+Kind-kept-unique κs a x y s t p q = p ∙ sym q
+
+pub Kind-input-unique : Unique 0 Kind-input-kinds.ps Kind-input-kinds.r Kind-input.Post
+Kind-input-unique κs a x y s t p q = p ∙ sym q
+
+pub Kind-allows-unique : Unique 0 Kind-allows-kinds.ps Kind-allows-kinds.r Kind-allows.Post
+Kind-allows-unique κs a x y s t p q = p ∙ sym q
+
+pub Kind-allowing-unique : Unique 0 Kind-allowing-kinds.ps Kind-allowing-kinds.r Kind-allowing.Post
+Kind-allowing-unique κs a x y s t p q = p ∙ sym q
+
+pub Kind-settled-unique : Unique 0 Kind-settled-kinds.ps Kind-settled-kinds.r Kind-settled.Post
+Kind-settled-unique κs a x y s t p q = p ∙ sym q
+
+pub modelled-unique : Unique 0 modelled-kinds.ps modelled-kinds.r modelled.Post
+modelled-unique κs a x y s t p q = p ∙ sym q
+
+pub Light-fresh-unique : Unique 0 Light-fresh-kinds.ps Light-fresh-kinds.r Light-fresh.Post
+Light-fresh-unique κs a x y s t p q = p ∙ sym q
+
+pub Light-allows-unique : Unique 0 Light-allows-kinds.ps Light-allows-kinds.r Light-allows.Post
+Light-allows-unique κs a x y s t p q = p ∙ sym q
+
+pub Light-taken-unique : Unique 0 Light-taken-kinds.ps Light-taken-kinds.r Light-taken.Post
+Light-taken-unique κs a x y s t p q = p ∙ sym q
+
+pub Light-cause-unique : Unique 0 Light-cause-kinds.ps Light-cause-kinds.r Light-cause.Post
+Light-cause-unique κs a x y s t p q = p ∙ sym q
+
+pub Light-repeat-unique : Unique 0 Light-repeat-kinds.ps Light-repeat-kinds.r Light-repeat.Post
+Light-repeat-unique κs a x y s t p q = p ∙ sym q
+
+pub Light-sent-unique : Unique 0 Light-sent-kinds.ps Light-sent-kinds.r Light-sent.Post
+Light-sent-unique κs a x y s t p q = p ∙ sym q
+
+pub Light-information-unique : Unique 0 Light-information-kinds.ps Light-information-kinds.r Light-information.Post
+Light-information-unique κs a x y s t p q = p ∙ sym q
+
+pub Light-input-unique : Unique 0 Light-input-kinds.ps Light-input-kinds.r Light-input.Post
+Light-input-unique κs a x y s t p q = p ∙ sym q
+
+pub Light-settled-unique : Unique 0 Light-settled-kinds.ps Light-settled-kinds.r Light-settled.Post
+Light-settled-unique κs a x y s t p q = p ∙ sym q
+
+pub Band-outside-unique : Unique 0 Band-outside-kinds.ps Band-outside-kinds.r Band-outside.Post
+Band-outside-unique κs a x y s t p q = p ∙ sym q
+
+pub Band-moved-unique : Unique 0 Band-moved-kinds.ps Band-moved-kinds.r Band-moved.Post
+Band-moved-unique κs a x y s t p q = p ∙ sym q
+
+pub Occupancy-fresh-unique : Unique 0 Occupancy-fresh-kinds.ps Occupancy-fresh-kinds.r Occupancy-fresh.Post
+Occupancy-fresh-unique κs a x y s t p q = p ∙ sym q
+
+pub Occupancy-allows-unique : Unique 0 Occupancy-allows-kinds.ps Occupancy-allows-kinds.r Occupancy-allows.Post
+Occupancy-allows-unique κs a x y s t p q = p ∙ sym q
+
+pub Occupancy-taken-unique : Unique 0 Occupancy-taken-kinds.ps Occupancy-taken-kinds.r Occupancy-taken.Post
+Occupancy-taken-unique κs a x y s t p q = p ∙ sym q
+
+pub Occupancy-cause-unique : Unique 0 Occupancy-cause-kinds.ps Occupancy-cause-kinds.r Occupancy-cause.Post
+Occupancy-cause-unique κs a x y s t p q = p ∙ sym q
+
+pub Occupancy-repeat-unique : Unique 0 Occupancy-repeat-kinds.ps Occupancy-repeat-kinds.r Occupancy-repeat.Post
+Occupancy-repeat-unique κs a x y s t p q = p ∙ sym q
+
+pub Occupancy-sent-unique : Unique 0 Occupancy-sent-kinds.ps Occupancy-sent-kinds.r Occupancy-sent.Post
+Occupancy-sent-unique κs a x y s t p q = p ∙ sym q
+
+pub Occupancy-information-unique : Unique 0 Occupancy-information-kinds.ps Occupancy-information-kinds.r Occupancy-information.Post
+Occupancy-information-unique κs a x y s t p q = p ∙ sym q
+
+pub Occupancy-input-unique : Unique 0 Occupancy-input-kinds.ps Occupancy-input-kinds.r Occupancy-input.Post
+Occupancy-input-unique κs a x y s t p q = p ∙ sym q
+
+pub Occupancy-allowing-unique : Unique 0 Occupancy-allowing-kinds.ps Occupancy-allowing-kinds.r Occupancy-allowing.Post
+Occupancy-allowing-unique κs a x y s t p q = p ∙ sym q
+
+pub Occupancy-settled-unique : Unique 0 Occupancy-settled-kinds.ps Occupancy-settled-kinds.r Occupancy-settled.Post
+Occupancy-settled-unique κs a x y s t p q = p ∙ sym q

@@ -1,0 +1,23 @@
+-- `sensor::kind::Kind::sensor_type` meets its contract.
+-- Assumes nothing.
+use Rattle.sensor.proofs.kind.Kind.sensor_type.Statement.{statement}
+use Rattle.sensor.proofs.kind.Kind.sensor_type.Tie as tie
+use Rattle.sensor.specs.Kind.{sensorType}
+use borrow.Author.Needs.{needs}
+
+enum-told : tie.Need-enum-told
+enum-told c = search needs
+
+enum-told-2 : tie.Need-enum-told-2
+enum-told-2 c = search needs
+
+returns : tie.Need-returns
+unfolding sensorType
+returns c = rw (c .enum-told .given .1)
+
+returns-2 : tie.Need-returns-2
+unfolding sensorType
+returns-2 c = rw (c .enum-told2 .given .1)
+
+pub sensor-type-spec : {M : Type 1} → statement M
+sensor-type-spec = tie.close (tie.spec enum-told enum-told-2 returns returns-2)

@@ -1,0 +1,4 @@
+pub mod Timers
+pub mod Decision
+pub mod Pace
+pub mod Quiet
