@@ -4,13 +4,13 @@ use Prim.Native.Nat.{ℕ, _<_, _≤_}
 use Rattle.command.specs.Answering.{ButLatch, acted, actedBy, answered, asked, latched}
 use Rattle.command.specs.Setting.{blockChanged, boundedHysteresis, boundedPriority, changed, filtered, obeyed, retimed, retimedReport}
 use Rattle.command.specs.declared.answering.Answer.the-variants.{None}
-use Rattle.opcode.specs.Meaning.{isSetting, meaning}
-use Rattle.opcode.specs.declared.meanings.Command.the-variants.{Disable, Enable, SetDeadtime, SetFilter, SetHysteresis, SetHysteresisMin, SetPriority, SetReport}
-use Rattle.opcode.specs.declared.meanings.Command.{Command}
-use Rattle.opcode.specs.declared.meanings.Meaning.the-variants.{Ask, Ignored, Set}
-use Rattle.opcode.specs.declared.meanings.Meaning.{Meaning}
-use Rattle.opcode.specs.declared.meanings.Query.the-variants.{QueryNext, QueryValue, QueryVariable}
-use Rattle.opcode.specs.declared.meanings.Query.{Query}
+use Rattle.opcode.specs.Meaning.{isSetting, meant}
+use Rattle.opcode.specs.declared.Command.the-variants.{Disable, Enable, SetDeadtime, SetFilter, SetHysteresis, SetHysteresisMin, SetPriority, SetReport}
+use Rattle.opcode.specs.declared.Command.{Command}
+use Rattle.opcode.specs.declared.Meaning.the-variants.{Ask, Ignored, Set}
+use Rattle.opcode.specs.declared.Meaning.{Meaning}
+use Rattle.opcode.specs.declared.Query.the-variants.{QueryNext, QueryValue, QueryVariable}
+use Rattle.opcode.specs.declared.Query.{Query}
 use Rattle.sensor.specs.Fresh.{fresh}
 use Rattle.sensor.specs.Kind.{allowing, kept, repeat, rules, units}
 use Rattle.sensor.specs.Occupancy.{occupancyAllowing}
@@ -47,9 +47,9 @@ by-keeps x (Set c) d e = absurd (true≢false e)
 by-keeps x (Ask q) d e = query-keeps x q
 by-keeps x Ignored d e = refl
 
-pub calm-keeps : (x : Instance) (opcode dtr0 : ℕ) → isSetting (meaning (x .kind) opcode) ≡ false → ButLatch x (acted x opcode dtr0 .instance)
+pub calm-keeps : (x : Instance) (opcode dtr0 : ℕ) → isSetting (meant (x .kind) opcode) ≡ false → ButLatch x (acted x opcode dtr0 .instance)
 unfolding acted
-calm-keeps x opcode dtr0 e = by-keeps x (meaning (x .kind) opcode) dtr0 e
+calm-keeps x opcode dtr0 e = by-keeps x (meant (x .kind) opcode) dtr0 e
 
 -- a setting command answers nothing
 by-silent : (x : Instance) (m : Meaning) (d : ℕ) → isSetting m ≡ true → actedBy x m d .answer ≡ None
@@ -58,12 +58,12 @@ by-silent x (Set c) d e = refl
 by-silent x (Ask q) d e = absurd (false≢true e)
 by-silent x Ignored d e = absurd (false≢true e)
 
-pub setting-silent : (x : Instance) (opcode dtr0 : ℕ) → isSetting (meaning (x .kind) opcode) ≡ true → acted x opcode dtr0 .answer ≡ None
+pub setting-silent : (x : Instance) (opcode dtr0 : ℕ) → isSetting (meant (x .kind) opcode) ≡ true → acted x opcode dtr0 .answer ≡ None
 unfolding acted
-setting-silent x opcode dtr0 e = by-silent x (meaning (x .kind) opcode) dtr0 e
+setting-silent x opcode dtr0 e = by-silent x (meant (x .kind) opcode) dtr0 e
 
 -- anything else is ignored: no change, no answer
-pub ignored-nothing : (x : Instance) (opcode dtr0 : ℕ) → meaning (x .kind) opcode ≡ Ignored → acted x opcode dtr0 ≡ record { instance = x; answer = None }
+pub ignored-nothing : (x : Instance) (opcode dtr0 : ℕ) → meant (x .kind) opcode ≡ Ignored → acted x opcode dtr0 ≡ record { instance = x; answer = None }
 unfolding acted actedBy
 ignored-nothing x opcode dtr0 e = rw e
 
@@ -76,7 +76,7 @@ by-held x Ignored d = refl
 
 pub held-kept : (x : Instance) (opcode dtr0 : ℕ) → acted x opcode dtr0 .instance .held ≡ x .held
 unfolding acted
-held-kept x opcode dtr0 = by-held x (meaning (x .kind) opcode) dtr0
+held-kept x opcode dtr0 = by-held x (meant (x .kind) opcode) dtr0
 
 by-failed : (x : Instance) (m : Meaning) (d : ℕ) → actedBy x m d .instance .failed ≡ x .failed
 unfolding actedBy obeyed blockChanged
@@ -86,7 +86,7 @@ by-failed x Ignored d = refl
 
 pub failed-kept : (x : Instance) (opcode dtr0 : ℕ) → acted x opcode dtr0 .instance .failed ≡ x .failed
 unfolding acted
-failed-kept x opcode dtr0 = by-failed x (meaning (x .kind) opcode) dtr0
+failed-kept x opcode dtr0 = by-failed x (meant (x .kind) opcode) dtr0
 
 -- ---- a command keeps the type, so what the decision goes by depends on the settings alone
 rules-allowed : (k : Kind) (filter : ℕ) (s : Settings) → rules (allowing k filter) s ≡ rules k s

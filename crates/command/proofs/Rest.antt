@@ -3,9 +3,9 @@
 -- Assumes nothing.
 use Prim.Native.Nat.{ℕ}
 use Rattle.command.specs.Setting.{filtered, retimed}
-use Rattle.opcode.proofs.meanings.Command as C
-use Rattle.opcode.specs.declared.meanings.Command.the-variants.{Disable, Enable, SetDeadtime, SetFilter, SetHysteresis, SetHysteresisMin, SetPriority, SetReport}
-use Rattle.opcode.specs.declared.meanings.Command.{Command}
+use Rattle.opcode.proofs.Command as C
+use Rattle.opcode.specs.declared.Command.the-variants.{Disable, Enable, SetDeadtime, SetFilter, SetHysteresis, SetHysteresisMin, SetPriority, SetReport}
+use Rattle.opcode.specs.declared.Command.{Command}
 use Rattle.sensor.specs.declared.kind.Kind.{Kind}
 use Rattle.timers.specs.declared.Rules.{Rules}
 use Rattle.timers.specs.declared.Timers.{Timers}

@@ -6,13 +6,13 @@ use Rattle.command.specs.declared.answering.Acted.{Acted}
 use Rattle.command.specs.declared.answering.Answer.the-variants.{Byte, None}
 use Rattle.command.specs.declared.answering.Answer.{Answer}
 use Rattle.command.specs.declared.answering.Piece.{Piece}
-use Rattle.opcode.specs.Meaning.{meaning}
-use Rattle.opcode.specs.declared.meanings.Meaning.the-variants.{Ask, Ignored, Set}
-use Rattle.opcode.specs.declared.meanings.Meaning.{Meaning}
-use Rattle.opcode.specs.declared.meanings.Query.the-variants.{QueryNext, QueryValue, QueryVariable}
-use Rattle.opcode.specs.declared.meanings.Query.{Query}
-use Rattle.opcode.specs.declared.meanings.Variable.the-variants.{Deadtime, Enabled, Error, Filter, Hysteresis, HysteresisMin, Priority, Report, Resolution, SensorType, Status}
-use Rattle.opcode.specs.declared.meanings.Variable.{Variable}
+use Rattle.opcode.specs.Meaning.{meant}
+use Rattle.opcode.specs.declared.Meaning.the-variants.{Ask, Ignored, Set}
+use Rattle.opcode.specs.declared.Meaning.{Meaning}
+use Rattle.opcode.specs.declared.Query.the-variants.{QueryNext, QueryValue, QueryVariable}
+use Rattle.opcode.specs.declared.Query.{Query}
+use Rattle.opcode.specs.declared.Variable.the-variants.{Deadtime, Enabled, Error, Filter, Hysteresis, HysteresisMin, Priority, Report, Resolution, SensorType, Status}
+use Rattle.opcode.specs.declared.Variable.{Variable}
 use Rattle.sensor.specs.Instance.{withLatch}
 use Rattle.sensor.specs.Kind.{input, resolution, sensorType}
 use Rattle.sensor.specs.declared.instance.Instance.{Instance}
@@ -71,7 +71,7 @@ actedBy x (Ask query) dtr0 = asked x query
 actedBy x Ignored dtr0 = record { instance = x; answer = None }
 
 unfoldable pub acted : Instance → (opcode dtr0 : ℕ) → Acted
-acted x opcode dtr0 = actedBy x (meaning (x .kind) opcode) dtr0
+acted x opcode dtr0 = actedBy x (meant (x .kind) opcode) dtr0
 
 -- y is x but for the latch
 abbrev pub ButLatch : (x y : Instance) → Type 0

@@ -1,8 +1,8 @@
 -- Document 01, "Frames": what a setting command makes of the settings, of the report timer and of the waiting triggers.
 -- Assumes nothing.
 use Prim.Native.Nat.{ℕ}
-use Rattle.opcode.specs.declared.meanings.Command.the-variants.{Disable, Enable, SetDeadtime, SetFilter, SetHysteresis, SetHysteresisMin, SetPriority, SetReport}
-use Rattle.opcode.specs.declared.meanings.Command.{Command}
+use Rattle.opcode.specs.declared.Command.the-variants.{Disable, Enable, SetDeadtime, SetFilter, SetHysteresis, SetHysteresisMin, SetPriority, SetReport}
+use Rattle.opcode.specs.declared.Command.{Command}
 use Rattle.sensor.specs.Instance.{withKind, withSettings, withTimers}
 use Rattle.sensor.specs.Kind.{allowing, kept, rules}
 use Rattle.sensor.specs.Settings.{withDeadtime, withEnabled, withFilter, withHysteresis, withMinimum, withPriority, withReport}

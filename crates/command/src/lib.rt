@@ -19,7 +19,7 @@ pub fn acted(x: Instance, opcode: u8, dtr0: u8) -> Acted
     ensures { λ r. ⌜ r ≡ acted x opcode dtr0 ⌝ }
 {
     let kind = x.kind;
-    match opcode::meaning(kind, opcode) {
+    match opcode::meant(kind, opcode) {
         Meaning::Set(command) => {
             let instance = setting::obeyed(x, command, dtr0);
             Acted {

@@ -25,7 +25,7 @@ use Rattle.device.proofs.Laws.{declared-other, frame-ignored, frame-other, held
 use Rattle.device.specs.Device.{declaredModel, fresh, heldModel, instanceAt, underWay, withDtr0}
 use Rattle.device.specs.Frame.{counts, frameLog, frameModel, loads}
 use Rattle.device.specs.declared.model.Model.{Model}
-use Rattle.opcode.specs.Meaning.{isSetting, meaning}
+use Rattle.opcode.specs.Meaning.{isSetting, meant}
 use Rattle.record.specs.Log.{AN, AllBytes, EV, bytesOf}
 use Rattle.sensor.specs.Tick.{isEvent, ticked}
 use Rattle.sensor.specs.declared.settings.Sample.{Sample}
@@ -87,7 +87,7 @@ module _ (m : Model) where
   ignored-alone first second third l c = frame-ignored m first second third l c
 
   -- a frame that counts, and means no setting command to its instance (a query, or no opcode of its type), changes at most its latch
-  pub query-alone : (first second third : ℕ) → counts m first second ≡ true → isSetting (meaning (instanceAt m second .kind) third) ≡ false
+  pub query-alone : (first second third : ℕ) → counts m first second ≡ true → isSetting (meant (instanceAt m second .kind) third) ≡ false
       → ButLatch (instanceAt m second) (instanceAt (frameModel m first second third) second)
   query-alone first second third c e = frame-latch second m first second third (rw (c, e, eq-eqb second second refl))
 

@@ -5,7 +5,7 @@ use Rattle.demands.specs.Happenings.{Call, Happening, bytesWritten, carr
 use Rattle.device.specs.Device.{instanceAt}
 use Rattle.device.specs.Frame.{counts}
 use Rattle.device.specs.declared.model.Model.{Model}
-use Rattle.opcode.specs.Meaning.{isSetting, meaning}
+use Rattle.opcode.specs.Meaning.{isSetting, meant}
 use Rattle.record.specs.Log.{AN, EV, Logged, decoded}
 use Rattle.sensor.specs.Kind.{repeat, rules}
 use Rattle.sensor.specs.Tick.{valid}
@@ -45,7 +45,7 @@ R x = reportTime (rulesOf x)
 -- ---- "its held sample valid at every tick, no setting command reaching it"
 -- a frame that counts for instance i, and means a setting command to it
 abbrev pub setsIt : (i : ℕ) → Model → (first second third : ℕ) → Bool
-setsIt i m first second third = (counts m first second && eqb second i) && isSetting (meaning (instanceAt m i .kind) third)
+setsIt i m first second third = (counts m first second && eqb second i) && isSetting (meant (instanceAt m i .kind) third)
 
 abbrev pub Calm : (i : ℕ) → Model → Happening → Type 0
 Calm i m (declare type resolution) = Unit {0}

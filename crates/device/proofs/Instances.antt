@@ -9,7 +9,7 @@ use Rattle.device.proofs.Laws.{declared-full, declared-next}
 use Rattle.device.specs.Device.{declaredModel, heldModel, instanceAt}
 use Rattle.device.specs.Frame.{actedAt, answerLog, counts, frameLog, loads, numberedLog, numberedModel}
 use Rattle.device.specs.declared.model.Model.{Model}
-use Rattle.opcode.specs.Meaning.{isSetting, meaning}
+use Rattle.opcode.specs.Meaning.{isSetting, meant}
 use Rattle.record.specs.Log.{answerSize, bytesOf, encoded}
 use Rattle.sensor.specs.Fresh as sensors
 use Rattle.sensor.specs.Instance.{withLatch}
@@ -42,7 +42,7 @@ pub alike : {x y : Instance} → y ≡ x → ButLatch x y
 alike {x} e = e ∙ ap (λ z. withLatch (z .latch) x) (sym e)
 
 -- what means no setting command to its instance changes at most the latch, whether the device has a place for it or not
-pub numbered-latch : (m : Model) (i opcode : ℕ) → isSetting (meaning (instanceAt m i .kind) opcode) ≡ false
+pub numbered-latch : (m : Model) (i opcode : ℕ) → isSetting (meant (instanceAt m i .kind) opcode) ≡ false
     → ButLatch (instanceAt m i) (instanceAt (numberedModel m i opcode) i)
 unfolding numberedModel instanceAt
 numbered-latch m i opcode e = go (decLt i (length (m .instances)))

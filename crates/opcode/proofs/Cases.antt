@@ -2,7 +2,7 @@
 -- Assumes nothing.
 use Prim.Native.Nat.{ℕ}
 use Rattle.opcode.specs.Meaning.{Case, meantIn}
-use Rattle.opcode.specs.declared.meanings.Meaning.the-variants.{Ignored}
+use Rattle.opcode.specs.declared.Meaning.the-variants.{Ignored}
 use borrow.Author.Tests.{ne-eqb}
 use mathlib.Core.List.{List, [], _∷_}
 use mathlib.Core.Path.{_≡_, refl}

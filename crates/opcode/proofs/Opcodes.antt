@@ -3,8 +3,8 @@
 -- Assumes nothing.
 use Prim.Native.Nat.{ℕ}
 use Rattle.opcode.specs.Meaning.{Case, isSetting, lightCases, lightMeaning, meantIn, occupancyCases, occupancyMeaning}
-use Rattle.opcode.specs.declared.meanings.Meaning.the-variants.{Ignored}
-use Rattle.opcode.specs.declared.meanings.Meaning.{Meaning}
+use Rattle.opcode.specs.declared.Meaning.the-variants.{Ignored}
+use Rattle.opcode.specs.declared.Meaning.{Meaning}
 use Rattle.sensor.proofs.Table.{both, each, every}
 use borrow.Author.Tests.{eq-eqb, eqb-true}
 use lib.Dec.{T, eqb}

@@ -1,13 +1,13 @@
 -- Document 01, "Frames": the opcodes of each type, and the command or query that each means. Any other byte is ignored.
 -- Assumes nothing.
 use Prim.Native.Nat.{ℕ}
-use Rattle.opcode.specs.declared.meanings.Command.the-variants.{Disable, Enable, SetDeadtime, SetFilter, SetHysteresis, SetHysteresisMin, SetPriority, SetReport}
-use Rattle.opcode.specs.declared.meanings.Command.{Command}
-use Rattle.opcode.specs.declared.meanings.Meaning.the-variants.{Ask, Ignored, Set}
-use Rattle.opcode.specs.declared.meanings.Meaning.{Meaning}
-use Rattle.opcode.specs.declared.meanings.Query.the-variants.{QueryNext, QueryValue, QueryVariable}
-use Rattle.opcode.specs.declared.meanings.Query.{Query}
-use Rattle.opcode.specs.declared.meanings.Variable.the-variants.{Deadtime, Enabled, Error, Filter, Hysteresis, HysteresisMin, Priority, Report, Resolution, SensorType, Status}
+use Rattle.opcode.specs.declared.Command.the-variants.{Disable, Enable, SetDeadtime, SetFilter, SetHysteresis, SetHysteresisMin, SetPriority, SetReport}
+use Rattle.opcode.specs.declared.Command.{Command}
+use Rattle.opcode.specs.declared.Meaning.the-variants.{Ask, Ignored, Set}
+use Rattle.opcode.specs.declared.Meaning.{Meaning}
+use Rattle.opcode.specs.declared.Query.the-variants.{QueryNext, QueryValue, QueryVariable}
+use Rattle.opcode.specs.declared.Query.{Query}
+use Rattle.opcode.specs.declared.Variable.the-variants.{Deadtime, Enabled, Error, Filter, Hysteresis, HysteresisMin, Priority, Report, Resolution, SensorType, Status}
 use Rattle.sensor.specs.declared.kind.Kind.the-variants.{Light, Occupancy}
 use Rattle.sensor.specs.declared.kind.Kind.{Kind}
 use lib.Dec.{eqb}
@@ -78,9 +78,9 @@ lightMeaning n = meantIn lightCases n
 unfoldable pub occupancyMeaning : (n : ℕ) → Meaning
 occupancyMeaning n = meantIn occupancyCases n
 
-unfoldable pub meaning : Kind → (n : ℕ) → Meaning
-meaning (Light l) n = lightMeaning n
-meaning (Occupancy o) n = occupancyMeaning n
+unfoldable pub meant : Kind → (n : ℕ) → Meaning
+meant (Light l) n = lightMeaning n
+meant (Occupancy o) n = occupancyMeaning n
 
 -- a setting command: 61, 62, 63, 68 and the set opcodes 30 to 33 (light) and 22, 23 (occupancy)
 unfoldable pub isSetting : Meaning → Bool

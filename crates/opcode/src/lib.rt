@@ -1,16 +1,50 @@
 // The command or query that byte 3 of a frame means (document 01, "Frames"): one decision for each type, by the opcodes that the type carries and
 // those that both have, in the order of the type's table in specs/Meaning.antt.
-mod meanings;
-
-pub use meanings::Command;
-pub use meanings::Meaning;
-pub use meanings::Query;
-pub use meanings::Variable;
 use sensor::Kind;
 use sensor::Light;
 use sensor::Occupancy;
-ghost use Rattle.opcode.specs.Meaning.{lightMeaning, meaning, occupancyMeaning};
+ghost use Rattle.opcode.specs.Meaning.{lightMeaning, meant, occupancyMeaning};
 ghost use mathlib.Core.Path.{_≡_};
+
+// The setting commands of all types. The proofs name those that an arm `_` takes in this order.
+pub enum Command {
+    SetPriority,
+    Enable,
+    Disable,
+    SetFilter,
+    SetReport,
+    SetDeadtime,
+    SetHysteresis,
+    SetHysteresisMin,
+}
+
+// What an instance is asked for that has one byte, or no answer, and latches nothing.
+pub enum Variable {
+    SensorType,
+    Resolution,
+    Error,
+    Status,
+    Priority,
+    Enabled,
+    Filter,
+    Report,
+    Deadtime,
+    Hysteresis,
+    HysteresisMin,
+}
+
+// The queries of all types: a variable; inputValue, whose top byte is answered; and the next of its bytes.
+pub enum Query {
+    QueryVariable(Variable),
+    QueryValue,
+    QueryNext,
+}
+
+pub enum Meaning {
+    Set(Command),
+    Ask(Query),
+    Ignored,
+}
 
 pub fn light_meaning(opcode: u8) -> Meaning
     ensures { λ r. ⌜ r ≡ lightMeaning opcode ⌝ }
@@ -81,8 +115,8 @@ pub fn occupancy_meaning(opcode: u8) -> Meaning
 }
 
 // The decision of the instance's own type.
-pub fn meaning(kind: Kind, opcode: u8) -> Meaning
-    ensures { λ r. ⌜ r ≡ meaning kind opcode ⌝ }
+pub fn meant(kind: Kind, opcode: u8) -> Meaning
+    ensures { λ r. ⌜ r ≡ meant kind opcode ⌝ }
 {
     match kind {
         Kind::Light(_) => light_meaning(opcode),

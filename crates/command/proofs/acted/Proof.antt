@@ -5,8 +5,8 @@ use Rattle.command.proofs.acted.Tie as tie
 use Rattle.command.specs.Answering.{acted, actedBy}
 use borrow.Author.Needs.{needs}
 
-meaning-requires : tie.Need-meaning-requires
-meaning-requires c κs = search needs
+meant-requires : tie.Need-meant-requires
+meant-requires c κs = search needs
 
 enum-known-command : tie.Need-enum-known-command
 enum-known-command c = search needs
@@ -25,21 +25,21 @@ enum-told c = search needs
 
 returns : tie.Need-returns
 unfolding acted actedBy
-returns c = rw (← c .before .before .before .before .meaning .ensures, c .before .before .command .given .1, c .obeyed .ensures)
+returns c = rw (← c .before .before .before .before .meant .ensures, c .before .before .command .given .1, c .obeyed .ensures)
 
 returns-2 : tie.Need-returns-2
 unfolding acted actedBy
-returns-2 c = rw (← c .before .before .before .before .meaning .ensures, c .before .before .query .given .1, c .asked .ensures)
+returns-2 c = rw (← c .before .before .before .before .meant .ensures, c .before .before .query .given .1, c .asked .ensures)
 
 returns-3 : tie.Need-returns-3
 unfolding acted actedBy
-returns-3 c = rw (← c .before .before .meaning .ensures, c .enum-told .given .1)
+returns-3 c = rw (← c .before .before .meant .ensures, c .enum-told .given .1)
 
 pub acted-spec : {M : Type 1} → statement M
 acted-spec =
     tie.close
     (tie.spec
-    meaning-requires
+    meant-requires
     enum-known-command
     obeyed-requires
     enum-known-query

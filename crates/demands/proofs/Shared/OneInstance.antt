@@ -10,7 +10,7 @@ use Rattle.device.proofs.Laws.{declared-dtr0, declared-length, declared-tick, f
 use Rattle.device.specs.Device.{heldModel, instanceAt}
 use Rattle.device.specs.Frame.{counts, frameModel, loads, numberedModel}
 use Rattle.device.specs.declared.model.Model.{Model}
-use Rattle.opcode.specs.Meaning.{isSetting, meaning}
+use Rattle.opcode.specs.Meaning.{isSetting, meant}
 use Rattle.sensor.specs.Tick.{holding, ticked}
 use Rattle.sensor.specs.declared.settings.Sample.{Sample}
 use Rattle.ticks.proofs.Laws.{tick-declared, tick-length}
@@ -76,7 +76,7 @@ frame-latch i m first second third e = go (loads first second) refl (counts m fi
     by : counts m first second ≡ true → Dec (i ≡ second) → ButLatch (instanceAt m i) (instanceAt (numberedModel m second third) i)
     by n (no other) = alike (numbered-other m second third i other)
     by n (yes q) =
-        let calm : isSetting (meaning (instanceAt m i .kind) third) ≡ false = rw (n, eq-eqb second i (sym q)) at e in
+        let calm : isSetting (meant (instanceAt m i .kind) third) ≡ false = rw (n, eq-eqb second i (sym q)) at e in
         subst (λ j. ButLatch (instanceAt m i) (instanceAt (numberedModel m j third) i)) q (numbered-latch m i third calm)
 
     go : (l : Bool) → loads first second ≡ l → (c : Bool) → counts m first second ≡ c

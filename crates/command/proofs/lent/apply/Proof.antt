@@ -11,9 +11,9 @@ use Rattle.command.proofs.setting.changed.Met as value-thm
 use Rattle.command.proofs.setting.changed.Symbol as value-def
 use Rattle.command.proofs.setting.changed.Symbol.{name as #value}
 use Rattle.command.specs.Setting.{changed}
-use Rattle.opcode.proofs.meanings.Command as E
-use Rattle.opcode.proofs.meanings.Command.Laws as E′
-use Rattle.opcode.specs.declared.meanings.Command.{Command}
+use Rattle.opcode.proofs.Command as E
+use Rattle.opcode.proofs.Command.Laws as E′
+use Rattle.opcode.specs.declared.Command.{Command}
 use Rattle.sensor.proofs.settings.Settings as T
 use Rattle.sensor.proofs.settings.Settings.Laws as T′
 use Rattle.sensor.specs.declared.settings.Settings.{Settings}

@@ -12,9 +12,9 @@ use Rattle.command.proofs.setting.block_changed.Code as code
 use Rattle.command.proofs.setting.block_changed.Key.{name as #self}
 use Rattle.command.proofs.setting.block_changed.Statement as stated
 use Rattle.command.specs.Setting.{changed, blockChanged}
-use Rattle.opcode.proofs.meanings.Command as E
-use Rattle.opcode.proofs.meanings.Command.Laws as E′
-use Rattle.opcode.specs.declared.meanings.Command.{Command}
+use Rattle.opcode.proofs.Command as E
+use Rattle.opcode.proofs.Command.Laws as E′
+use Rattle.opcode.specs.declared.Command.{Command}
 use Rattle.sensor.proofs.instance.Instance as O
 use Rattle.sensor.proofs.instance.Instance.Laws as O′
 use Rattle.sensor.proofs.kind.Kind as K

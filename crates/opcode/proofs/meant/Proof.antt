@@ -1,8 +1,8 @@
--- `opcode::meaning` meets its contract.
+-- `opcode::meant` meets its contract.
 -- Assumes nothing.
-use Rattle.opcode.proofs.meaning.Statement.{statement}
-use Rattle.opcode.proofs.meaning.Tie as tie
-use Rattle.opcode.specs.Meaning.{meaning}
+use Rattle.opcode.proofs.meant.Statement.{statement}
+use Rattle.opcode.proofs.meant.Tie as tie
+use Rattle.opcode.specs.Meaning.{meant}
 use borrow.Author.Needs.{needs}
 
 enum-told : tie.Need-enum-told
@@ -18,15 +18,15 @@ occupancy-meaning-requires : tie.Need-occupancy-meaning-requires
 occupancy-meaning-requires c κs = search needs
 
 returns : tie.Need-returns
-unfolding meaning
+unfolding meant
 returns c = rw (c .before .enum-told .given .1) (c .light-meaning .ensures)
 
 returns-2 : tie.Need-returns-2
-unfolding meaning
+unfolding meant
 returns-2 c = rw (c .before .enum-told2 .given .1) (c .occupancy-meaning .ensures)
 
-pub meaning-spec : {M : Type 1} → statement M
-meaning-spec =
+pub meant-spec : {M : Type 1} → statement M
+meant-spec =
     tie.close
     (tie.spec
     enum-told
