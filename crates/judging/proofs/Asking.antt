@@ -1,7 +1,7 @@
 -- The record at the front of what is left of a session: what follows it does not matter to it, what it asks for goes by its kind, and its
 -- ticks are within the time that is left.
 -- Assumes nothing.
-use Prim.Native.Nat.{ℕ, _-_, _<_, _≤_}
+use Prim.Native.Nat.{ℕ, max, _-_, _<_, _≤_}
 use Rattle.device.specs.Device.{allowed, known}
 use Rattle.device.specs.declared.model.Model.{Model}
 use Rattle.judging.specs.Asked.{asked, askedBy, declareAsked, frameAsked, sampleAsked, sampleIn, sizeOf, ticksAsked}
@@ -12,7 +12,7 @@ use Rattle.judging.specs.declared.asked.Refusal.the-variants.{BadSample,
 use Rattle.judging.specs.declared.asked.Refusal.{Refusal}
 use Rattle.record.proofs.Bytes.{all-below}
 use Rattle.record.specs.Log.{AllBytes}
-use Rattle.record.specs.Marks.{markOf}
+use Rattle.record.specs.Marks.{markOf, markSize}
 use Rattle.record.specs.Numbers.{byte, word}
 use Rattle.record.specs.declared.marks.Mark.the-variants.{Bus, Declaration, Measurement, Time, Unknown}
 use Rattle.record.specs.declared.marks.Mark.{Mark}
@@ -49,32 +49,47 @@ cut size xs ys h =
       same = λ k below. sym (List·getD-append (take size xs) ys 0 k (rw l below) ∙ getD-take size xs k 0 below);
     }
 
--- of each kind of record, its size
+-- what a record takes, by its mark; one of no known mark, that
 abbrev sizeAt : Mark → ℕ
-sizeAt Unknown = 2
-sizeAt Declaration = 5
-sizeAt Measurement = 7
-sizeAt Bus = 5
-sizeAt Time = 4
+sizeAt k = max 2 (markSize k)
 
 module _ (m : Model) (p q : List ℕ) where
   alike : (k : Mark) → Agree (sizeAt k) p q → askedBy k p m ≡ askedBy k q m
   unfolding askedBy declareAsked sampleAsked frameAsked ticksAsked
   alike Unknown a = refl
   alike Declaration a =
-      rw (le-ltb (length p) 5 (a .long), le-ltb (length q) 5 (a .long′), a .same 2 (omega arith), a .same 3 (omega arith), a .same 4 (omega arith))
+      rw (
+        le-ltb (length p) (markSize Declaration) (a .long),
+        le-ltb (length q) (markSize Declaration) (a .long′),
+        a .same 2 (omega arith),
+        a .same 3 (omega arith),
+        a .same 4 (omega arith),
+      )
   alike Measurement a =
       rw (
-        le-ltb (length p) 7 (a .long),
-        le-ltb (length q) 7 (a .long′),
+        le-ltb (length p) (markSize Measurement) (a .long),
+        le-ltb (length q) (markSize Measurement) (a .long′),
         a .same 2 (omega arith),
         a .same 3 (omega arith),
         a .same 4 (omega arith),
         a .same 5 (omega arith),
         a .same 6 (omega arith),
       )
-  alike Bus a = rw (le-ltb (length p) 5 (a .long), le-ltb (length q) 5 (a .long′), a .same 2 (omega arith), a .same 3 (omega arith), a .same 4 (omega arith))
-  alike Time a = rw (le-ltb (length p) 4 (a .long), le-ltb (length q) 4 (a .long′), a .same 2 (omega arith), a .same 3 (omega arith))
+  alike Bus a =
+      rw (
+        le-ltb (length p) (markSize Bus) (a .long),
+        le-ltb (length q) (markSize Bus) (a .long′),
+        a .same 2 (omega arith),
+        a .same 3 (omega arith),
+        a .same 4 (omega arith),
+      )
+  alike Time a =
+      rw (
+        le-ltb (length p) (markSize Time) (a .long),
+        le-ltb (length q) (markSize Time) (a .long′),
+        a .same 2 (omega arith),
+        a .same 3 (omega arith),
+      )
 
 -- a record that is taken has its kind's size
 abbrev Sized : (size : ℕ) → Asked → Type 0
@@ -100,15 +115,15 @@ module _ (rest : List ℕ) (m : Model) (l : 2 ≤ length rest) where
   unfolding askedBy declareAsked sampleAsked frameAsked ticksAsked sizeOf
   whole-by Unknown = inr (l, inl refl)
   whole-by Declaration =
-      whole-if 5 (length rest) _
+      whole-if (markSize Declaration) (length rest) _
       (sized-if (m .running || not (eqb (byte rest 2) (m .declared))) _ _ (inl refl)
       (sized-if (ltb (byte rest 2) 16 && modelled (byte rest 3) (byte rest 4)) _ _ (inr refl) (inl refl)))
   whole-by Measurement =
-      whole-if 7 (length rest) _
+      whole-if (markSize Measurement) (length rest) _
       (sized-if (known m (byte rest 2)) _ _ (sized-if (allowed m (byte rest 2) (sampleIn rest)) _ _ (inr refl) (inl refl)) (inl refl))
-  whole-by Bus = whole-if 5 (length rest) _ (inr refl)
+  whole-by Bus = whole-if (markSize Bus) (length rest) _ (inr refl)
   whole-by Time =
-      whole-if 4 (length rest) _
+      whole-if (markSize Time) (length rest) _
       (sized-if (eqb (word rest 2) 0) _ _ (inl refl) (sized-if (ltb (4294967295 - m .tick) (word rest 2)) _ _ (inl refl) (inr refl)))
 
 -- a mark that is there decides
@@ -116,12 +131,23 @@ pub marked : (rest : List ℕ) (m : Model) → 2 ≤ length rest → asked rest 
 unfolding asked
 marked rest m l = rw (le-ltb (length rest) 2 l)
 
+-- A RECORD WHOLE: what a record takes is there
+within : (size long : ℕ) (a : Asked) → Whole size long a → sizeOf a ≤ long
+unfolding sizeOf
+within size long a (inl e) = rw e (omega arith)
+within size long a (inr (w, inl z)) = omega arith
+within size long a (inr (w, inr z)) = omega arith
+
+pub asked-size : (rest : List ℕ) (m : Model) → sizeOf (asked rest m) ≤ length rest
+unfolding asked sizeOf
+asked-size rest m = go (ltb (length rest) 2) refl
+  where
+    go : (b : Bool) → ltb (length rest) 2 ≡ b → sizeOf (asked rest m) ≤ length rest
+    go true e = rw e (omega arith)
+    go false e = let l = ltb-false (length rest) 2 e in rw (marked rest m l) (within _ _ _ (whole-by rest m l (markOf (word rest 0))))
+
 two-least : (k : Mark) → 2 ≤ sizeAt k
-two-least Unknown = omega arith
-two-least Declaration = omega arith
-two-least Measurement = omega arith
-two-least Bus = omega arith
-two-least Time = omega arith
+two-least k = omega arith
 
 same-by : (rest : List ℕ) (m : Model) → 2 ≤ length rest → (q : List ℕ) → Agree (sizeAt (markOf (word rest 0))) rest q → asked q m ≡ asked rest m
 same-by rest m l q a =

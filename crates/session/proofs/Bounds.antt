@@ -3,7 +3,7 @@
 use Prim.Native.Nat.{ℕ, suc, zero, _+_, _-_, _≤_}
 use Rattle.device.specs.Frame.{frameLog}
 use Rattle.device.specs.declared.model.Model.{Model}
-use Rattle.judging.proofs.Sizes.{asked-size}
+use Rattle.judging.proofs.Asking.{asked-size}
 use Rattle.judging.specs.Asked.{asked, sizeOf}
 use Rattle.judging.specs.declared.asked.Asked.the-variants.{Declare, Frame, Hold, Refused, Ticks}
 use Rattle.judging.specs.declared.asked.Asked.{Asked}

@@ -2,8 +2,7 @@
 -- Assumes nothing.
 use Prim.Native.Nat.{ℕ, suc, _%_, _*_, _+_, _-_, _/_, _<_, _≤_}
 use Rattle.device.specs.declared.model.Model.{Model}
-use Rattle.judging.proofs.Asking.{as-ticks, count-of, marked, ticksOf}
-use Rattle.judging.proofs.Sizes.{asked-size}
+use Rattle.judging.proofs.Asking.{as-ticks, asked-size, count-of, marked, ticksOf}
 use Rattle.judging.specs.Asked.{asked, askedBy, sizeOf, ticksAsked}
 use Rattle.judging.specs.declared.asked.Asked.the-variants.{Ticks}
 use Rattle.record.specs.Marks.{markOf, ticks}

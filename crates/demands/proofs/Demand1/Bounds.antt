@@ -4,8 +4,7 @@ use Prim.Native.Nat.{ℕ, zero, suc, _<_, _≤_}
 use Rattle.demands.proofs.Shared.ByRecords.{by-records}
 use Rattle.demands.specs.Stands.{behind}
 use Rattle.device.specs.declared.model.Model.{Model}
-use Rattle.judging.proofs.Asking.{refused-number, two-bytes}
-use Rattle.judging.proofs.Sizes.{asked-size}
+use Rattle.judging.proofs.Asking.{asked-size, refused-number, two-bytes}
 use Rattle.judging.specs.Asked.{asked, sizeOf}
 use Rattle.judging.specs.Refusals.{numberOf}
 use Rattle.judging.specs.declared.asked.Refusal.{Refusal}

@@ -5,8 +5,7 @@ use Rattle.demands.proofs.Shared.ByRecords.{by-records, session-none, s
 use Rattle.demands.proofs.Shared.FirstRecord.{first-same}
 use Rattle.demands.specs.Stands.{behind, stands, takenWhole, timeRecord}
 use Rattle.device.specs.declared.model.Model.{Model}
-use Rattle.judging.proofs.Asking.{cut, time-left}
-use Rattle.judging.proofs.Sizes.{asked-size}
+use Rattle.judging.proofs.Asking.{asked-size, cut, time-left}
 use Rattle.judging.specs.Asked.{asked, sizeOf}
 use Rattle.judging.specs.Refusals.{numberOf}
 use Rattle.judging.specs.declared.asked.Asked.the-variants.{Ticks}

@@ -6,8 +6,7 @@ use Rattle.demands.proofs.Shared.FirstRecord.{first-same}
 use Rattle.demands.specs.Numbers.{LeftOff}
 use Rattle.demands.specs.Stands.{behind}
 use Rattle.device.specs.declared.model.Model.{Model}
-use Rattle.judging.proofs.Asking.{cut}
-use Rattle.judging.proofs.Sizes.{asked-size}
+use Rattle.judging.proofs.Asking.{asked-size, cut}
 use Rattle.judging.specs.Asked.{asked, sizeOf}
 use Rattle.record.specs.Log.{Logged, bytesOf}
 use Rattle.session.proofs.Records.{after-log, step-behind}

@@ -10,8 +10,7 @@ use Rattle.demands.specs.Numbers.{Front, NoneGiven, tickedLog, tickedMod
 use Rattle.demands.specs.Stands.{behind, roomAfter}
 use Rattle.device.specs.Frame.{frameLog}
 use Rattle.device.specs.declared.model.Model.{Model}
-use Rattle.judging.proofs.Asking.{cut}
-use Rattle.judging.proofs.Sizes.{asked-size}
+use Rattle.judging.proofs.Asking.{asked-size, cut}
 use Rattle.judging.specs.Asked.{asked, sizeOf}
 use Rattle.judging.specs.declared.asked.Asked.the-variants.{Declare, Frame, Hold, Refused, Ticks}
 use Rattle.judging.specs.declared.asked.Asked.{Asked}

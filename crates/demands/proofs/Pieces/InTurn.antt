@@ -6,8 +6,7 @@ use Rattle.demands.proofs.Shared.ByRecords.{by-records}
 use Rattle.demands.proofs.Shared.FirstRecord.{first-extended}
 use Rattle.demands.specs.Stands.{behind, roomAfter}
 use Rattle.device.specs.declared.model.Model.{Model}
-use Rattle.judging.proofs.Asking.{refused-number}
-use Rattle.judging.proofs.Sizes.{asked-size}
+use Rattle.judging.proofs.Asking.{asked-size, refused-number}
 use Rattle.judging.specs.Asked.{asked, sizeOf}
 use Rattle.record.specs.Log.{Logged, bytesOf}
 use Rattle.session.proofs.Room.{nothing-left, room-behind}

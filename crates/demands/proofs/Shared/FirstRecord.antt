@@ -4,8 +4,7 @@ use Prim.Native.Nat.{ℕ, _-_, _<_}
 use Rattle.demands.proofs.Shared.ByRecords.{session-taken}
 use Rattle.demands.specs.Stands.{behind}
 use Rattle.device.specs.declared.model.Model.{Model}
-use Rattle.judging.proofs.Asking.{Agree, alone, extended}
-use Rattle.judging.proofs.Sizes.{asked-size}
+use Rattle.judging.proofs.Asking.{Agree, alone, asked-size, extended}
 use Rattle.judging.specs.Asked.{asked, sizeOf}
 use Rattle.record.specs.Log.{Logged, bytesOf}
 use Rattle.session.proofs.Kept.{taken-size}

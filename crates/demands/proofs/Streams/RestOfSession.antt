@@ -7,8 +7,7 @@ use Rattle.demands.proofs.Shared.ByRecords.{by-records, session-refused
 use Rattle.demands.proofs.Shared.FirstRecord.{first-extended}
 use Rattle.demands.specs.Stands.{behind, roomAfter, written}
 use Rattle.device.specs.declared.model.Model.{Model}
-use Rattle.judging.proofs.Asking.{alone, as-ticks, extended, ticksOf, time-left}
-use Rattle.judging.proofs.Sizes.{asked-size}
+use Rattle.judging.proofs.Asking.{alone, as-ticks, asked-size, extended, ticksOf, time-left}
 use Rattle.judging.specs.Asked.{asked, sizeOf}
 use Rattle.judging.specs.Refusals.{numberOf}
 use Rattle.judging.specs.declared.asked.Asked.the-variants.{Ticks}
