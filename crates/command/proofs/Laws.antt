@@ -1,7 +1,7 @@
 -- Document 01, "Frames": what its sentences on commands and queries say of the definitions.
 -- Assumes nothing.
 use Prim.Native.Nat.{ℕ, _<_, _≤_}
-use Rattle.command.specs.Answering.{ButLatch, acted, actedBy, answered, asked, latched}
+use Rattle.command.specs.Answering.{ButLatch, acted, actedBy, answered, latched, queried}
 use Rattle.command.specs.Setting.{blockChanged, boundedHysteresis, boundedPriority, changed, filtered, obeyed, retimed, retimedReport}
 use Rattle.command.specs.declared.answering.Answer.the-variants.{None}
 use Rattle.opcode.specs.Meaning.{isSetting, meant}
@@ -33,8 +33,8 @@ use native.Mathlib.Nat.{le-max-left, ne-of-gt}
 use native.Mathlib.Omega.{arith}
 
 -- ---- a query changes nothing but the latch
-pub query-keeps : (x : Instance) (q : Query) → ButLatch x (asked x q .instance)
-unfolding answered asked
+pub query-keeps : (x : Instance) (q : Query) → ButLatch x (queried x q .instance)
+unfolding answered queried
 query-keeps x (QueryVariable variable) = refl
 query-keeps x QueryValue = refl
 query-keeps x QueryNext = refl
@@ -182,11 +182,11 @@ unfolding allowing filtered occupancyAllowing
 disabling-clears o filter = rw (and-zero-r (o .waiting))
 
 -- ---- the latch: 8D answers none when it is used up
-pub used-up : (x : Instance) → x .latch .left ≡ 0 → asked x QueryNext .answer ≡ None
-unfolding asked latched answered
+pub used-up : (x : Instance) → x .latch .left ≡ 0 → queried x QueryNext .answer ≡ None
+unfolding queried latched answered
 used-up x e = rw (eq-eqb (x .latch .left) 0 e)
 
 -- or when nothing was latched
-pub nothing-latched : (k : Kind) (s : Settings) (held : Sample) → asked (fresh k s held) QueryNext .answer ≡ None
+pub nothing-latched : (k : Kind) (s : Settings) (held : Sample) → queried (fresh k s held) QueryNext .answer ≡ None
 unfolding fresh
 nothing-latched k s held = used-up (fresh k s held) refl

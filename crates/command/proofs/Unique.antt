@@ -4,12 +4,12 @@
 use Rattle.command.proofs.acted.Kinds as acted-kinds
 use Rattle.command.proofs.acted.Reads as acted
 use Rattle.command.proofs.apply
-use Rattle.command.proofs.asked.Kinds as asked-kinds
-use Rattle.command.proofs.asked.Reads as asked
 use Rattle.command.proofs.changed.Kinds as changed-kinds
 use Rattle.command.proofs.changed.Reads as changed
 use Rattle.command.proofs.obeyed.Kinds as obeyed-kinds
 use Rattle.command.proofs.obeyed.Reads as obeyed
+use Rattle.command.proofs.queried.Kinds as queried-kinds
+use Rattle.command.proofs.queried.Reads as queried
 use Rattle.command.specs.Setting.{changed}
 use Rattle.promise.specs.Unique.{Unique, UniqueWalked}
 use Rattle.sensor.proofs.settings.Settings as settings
@@ -26,8 +26,8 @@ use mathlib.Core.Path.{refl, sym, _≡_, _∙_}
 pub acted-unique : Unique 0 acted-kinds.ps acted-kinds.r acted.Post
 acted-unique κs a x y s t p q = p ∙ sym q
 
-pub asked-unique : Unique 0 asked-kinds.ps asked-kinds.r asked.Post
-asked-unique κs a x y s t p q = p ∙ sym q
+pub queried-unique : Unique 0 queried-kinds.ps queried-kinds.r queried.Post
+queried-unique κs a x y s t p q = p ∙ sym q
 
 -- `apply` is walked by hand: its promise is the `ensures` of the contract that the checker exports
 abbrev apply-contract : (w : World) → Clauses (w .𝓤) apply.ended

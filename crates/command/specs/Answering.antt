@@ -59,15 +59,15 @@ unfoldable pub answered : Instance → Piece → Acted
 answered x l = record { instance = withLatch (l .latch) x; answer = l .answer }
 
 -- ---- a query changes nothing but the latch: 8C latches inputValue and answers its top byte, 8D answers the next
-unfoldable pub asked : Instance → Query → Acted
-asked x (QueryVariable variable) = record { instance = x; answer = valueOf x variable }
-asked x QueryValue = answered x (latched (input (x .kind)) (inputBytes (resolution (x .kind))))
-asked x QueryNext = answered x (latched (x .latch .bytes) (x .latch .left))
+unfoldable pub queried : Instance → Query → Acted
+queried x (QueryVariable variable) = record { instance = x; answer = valueOf x variable }
+queried x QueryValue = answered x (latched (input (x .kind)) (inputBytes (resolution (x .kind))))
+queried x QueryNext = answered x (latched (x .latch .bytes) (x .latch .left))
 
 -- ---- what byte 3 does: a setting command answers nothing; anything else is ignored
 unfoldable pub actedBy : Instance → Meaning → (dtr0 : ℕ) → Acted
 actedBy x (Set command) dtr0 = record { instance = obeyed x command dtr0; answer = None }
-actedBy x (Ask query) dtr0 = asked x query
+actedBy x (Ask query) dtr0 = queried x query
 actedBy x Ignored dtr0 = record { instance = x; answer = None }
 
 unfoldable pub acted : Instance → (opcode dtr0 : ℕ) → Acted

@@ -3,7 +3,7 @@ use opcode::Query;
 use opcode::Variable;
 use sensor::Instance;
 use sensor::Latch;
-ghost use Rattle.command.specs.Answering.{answered, asked, byteAt, latched, onlyIf, status, valueOf};
+ghost use Rattle.command.specs.Answering.{answered, byteAt, latched, onlyIf, queried, status, valueOf};
 ghost use mathlib.Core.Path.{_≡_};
 
 pub enum Answer {
@@ -24,8 +24,8 @@ struct Piece {
 }
 
 // A query changes nothing but the latch.
-pub fn asked(x: Instance, query: Query) -> Acted
-    ensures { λ r. ⌜ r ≡ asked x query ⌝ }
+pub fn queried(x: Instance, query: Query) -> Acted
+    ensures { λ r. ⌜ r ≡ queried x query ⌝ }
 {
     let kind = x.kind;
     let latch = x.latch;

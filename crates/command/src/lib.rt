@@ -5,7 +5,7 @@ mod setting;
 
 pub use answering::Acted;
 pub use answering::Answer;
-pub use answering::asked;
+pub use answering::queried;
 pub use lent::apply;
 use opcode::Meaning;
 use sensor::Instance;
@@ -27,7 +27,7 @@ pub fn acted(x: Instance, opcode: u8, dtr0: u8) -> Acted
                 answer: Answer::None,
             }
         }
-        Meaning::Ask(query) => answering::asked(x, query),
+        Meaning::Ask(query) => answering::queried(x, query),
         Meaning::Ignored => Acted {
             instance: x,
             answer: Answer::None,

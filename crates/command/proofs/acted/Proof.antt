@@ -17,8 +17,8 @@ obeyed-requires c κs = search needs
 enum-known-query : tie.Need-enum-known-query
 enum-known-query c = search needs
 
-asked-requires : tie.Need-asked-requires
-asked-requires c κs = search needs
+queried-requires : tie.Need-queried-requires
+queried-requires c κs = search needs
 
 enum-told : tie.Need-enum-told
 enum-told c = search needs
@@ -29,7 +29,7 @@ returns c = rw (← c .before .before .before .before .meant .ensures, c .before
 
 returns-2 : tie.Need-returns-2
 unfolding acted actedBy
-returns-2 c = rw (← c .before .before .before .before .meant .ensures, c .before .before .query .given .1, c .asked .ensures)
+returns-2 c = rw (← c .before .before .before .before .meant .ensures, c .before .before .query .given .1, c .queried .ensures)
 
 returns-3 : tie.Need-returns-3
 unfolding acted actedBy
@@ -43,7 +43,7 @@ acted-spec =
     enum-known-command
     obeyed-requires
     enum-known-query
-    asked-requires
+    queried-requires
     enum-told
     returns
     returns-2

@@ -48,7 +48,7 @@ unfolding
     records.asked records.askedBy records.declareAsked records.sampleAsked records.frameAsked records.ticksAsked records.sizeOf
     allowed declaredModel fresh heldModel instanceAt known answerLog counts frameLog frameModel loads numberedLog numberedModel
     sentLog sweep sweepLog tickLog tickModel
-    answering.acted answering.asked answering.actedBy answering.answered answering.byteAt answering.latched lightMeaning meant meantIn markOf
+    answering.acted answering.queried answering.actedBy answering.answered answering.byteAt answering.latched lightMeaning meant meantIn markOf
     after decided deadTime due fallen fallenReport reportTime started startedReport bytesOf encoded
     sensors.declared sensors.fresh sensors.lightFresh allows cause information input modelled repeat resolution rules sent taken units
     lightAllows lightCause lightInformation lightInput lightRepeat lightSent lightTaken minimum moved outside width

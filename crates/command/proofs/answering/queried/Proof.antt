@@ -1,8 +1,8 @@
--- `command::answering::asked` meets its contract.
+-- `command::answering::queried` meets its contract.
 -- Assumes nothing.
-use Rattle.command.proofs.answering.asked.Statement.{statement}
-use Rattle.command.proofs.answering.asked.Tie as tie
-use Rattle.command.specs.Answering.{asked}
+use Rattle.command.proofs.answering.queried.Statement.{statement}
+use Rattle.command.proofs.answering.queried.Tie as tie
+use Rattle.command.specs.Answering.{queried}
 use borrow.Author.Needs.{needs}
 
 enum-known-query : tie.Need-enum-known-query
@@ -39,19 +39,19 @@ answered-requires-2 : tie.Need-answered-requires-2
 answered-requires-2 c κs = search needs
 
 returns : tie.Need-returns
-unfolding asked
+unfolding queried
 returns c = rw (c .before .before .query .given .1, c .value-of .ensures)
 
 returns-2 : tie.Need-returns-2
-unfolding asked
+unfolding queried
 returns-2 c = rw (c .before .before .before .before .before .enum-told .given .1, c .answered .ensures, c .before .latched .ensures, c .before .before .input-bytes .ensures, c .before .before .before .resolution .ensures, c .before .before .before .before .input .ensures)
 
 returns-3 : tie.Need-returns-3
-unfolding asked
+unfolding queried
 returns-3 c = rw (c .before .before .enum-told2 .given .1, c .answered2 .ensures, c .before .latched2 .ensures)
 
-pub asked-spec : {M : Type 1} → statement M
-asked-spec =
+pub queried-spec : {M : Type 1} → statement M
+queried-spec =
     tie.close
     (tie.spec
     enum-known-query
