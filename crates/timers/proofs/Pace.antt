@@ -32,9 +32,9 @@ use native.Mathlib.Omega.{arith}
 paced : (D R last n : ℕ) (es : List ℕ) → 0 < R → Spaced (max D 1) R last es (last + n) → Paced D R last n es
 paced D R last n es h s =
     record {
-      at-least = lower-count (max D 1) R last n es h s;
-      at-most = upper-count (max D 1) R last n es (omega arith) s;
-      gapless = λ a l u. no-gap (max D 1) R last es (last + n) a s l u;
+      at-least = omega (arith, lower-count (max D 1) R last n es h s);
+      at-most = omega (arith, upper-count (max D 1) R last n es (omega arith) s);
+      gapless = λ a l u. let (e, m, above, up) = no-gap (max D 1) R last es (last + n) a s l u in (e, m, omega arith, omega arith);
     }
 
 -- what is decided of an enabled instance whose filter lets the report out, with so much of dead time and of the report time left
