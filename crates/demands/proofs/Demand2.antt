@@ -1,8 +1,8 @@
 -- DEMAND 2: "Values, answers, triggers, events and priorities are those of IEC 62386-303 and -304 as document 01 fixes them, tick for tick. A
 -- command numbered to one instance changes no variable or timer of another."
--- The values are the definitions that the functions' promises cite, in specs/ of sensor, opcode, command, device, ticks, judging and session, each with its section
--- of document 01. Here: that a session is those definitions one after another, that a record which nothing refuses is taken, what each of
--- them leaves alone, and which models are shut out.
+-- The values are the definitions that the functions' promises cite, in specs/ of sensor, opcode, command, device, ticks, judging and session,
+-- each with its section of document 01. Here: that a session is those definitions one after another, that a record which nothing refuses is
+-- taken, what each of them leaves alone, and which models are shut out.
 -- Assumes nothing.
 mod FourKinds
 mod FullSessionRead

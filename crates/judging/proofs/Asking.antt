@@ -95,9 +95,10 @@ module _ (m : Model) (p q : List ℕ) where
 abbrev Sized : (size : ℕ) → Asked → Type 0
 Sized size a = (sizeOf a ≡ 0) ⊎ (sizeOf a ≡ size)
 
-sized-if : {size : ℕ} (b : Bool) (x y : Asked) → Sized size x → Sized size y → Sized size (cond b x y)
-sized-if true x y p q = p
-sized-if false x y p q = q
+-- what holds either way of a test
+by-test : (P : Asked → Type 0) (b : Bool) (x y : Asked) → P x → P y → P (cond b x y)
+by-test P true x y p q = p
+by-test P false x y p q = q
 
 -- and one that is not cut is whole
 abbrev Whole : (size long : ℕ) → Asked → Type 0
@@ -116,15 +117,15 @@ module _ (rest : List ℕ) (m : Model) (l : 2 ≤ length rest) where
   whole-by Unknown = inr (l, inl refl)
   whole-by Declaration =
       whole-if (markSize Declaration) (length rest) _
-      (sized-if (m .running || not (eqb (byte rest 2) (m .declared))) _ _ (inl refl)
-      (sized-if (ltb (byte rest 2) 16 && modelled (byte rest 3) (byte rest 4)) _ _ (inr refl) (inl refl)))
+      (by-test (Sized (markSize Declaration)) (m .running || not (eqb (byte rest 2) (m .declared))) _ _ (inl refl)
+      (by-test (Sized (markSize Declaration)) (ltb (byte rest 2) 16 && modelled (byte rest 3) (byte rest 4)) _ _ (inr refl) (inl refl)))
   whole-by Measurement =
       whole-if (markSize Measurement) (length rest) _
-      (sized-if (known m (byte rest 2)) _ _ (sized-if (allowed m (byte rest 2) (sampleIn rest)) _ _ (inr refl) (inl refl)) (inl refl))
+      (by-test (Sized (markSize Measurement)) (known m (byte rest 2)) _ _ (by-test (Sized (markSize Measurement)) (allowed m (byte rest 2) (sampleIn rest)) _ _ (inr refl) (inl refl)) (inl refl))
   whole-by Bus = whole-if (markSize Bus) (length rest) _ (inr refl)
   whole-by Time =
       whole-if (markSize Time) (length rest) _
-      (sized-if (eqb (word rest 2) 0) _ _ (inl refl) (sized-if (ltb (4294967295 - m .tick) (word rest 2)) _ _ (inl refl) (inr refl)))
+      (by-test (Sized (markSize Time)) (eqb (word rest 2) 0) _ _ (inl refl) (by-test (Sized (markSize Time)) (ltb (4294967295 - m .tick) (word rest 2)) _ _ (inl refl) (inr refl)))
 
 -- a mark that is there decides
 pub marked : (rest : List ℕ) (m : Model) → 2 ≤ length rest → asked rest m ≡ askedBy (markOf (word rest 0)) rest m
@@ -203,10 +204,6 @@ module _ (P : Asked → Type 0) (rest : List ℕ) (m : Model)
     (frames : P (Frame (byte rest 2) (byte rest 3) (byte rest 4)))
     (time : word rest 2 ≤ 4294967295 - m .tick → P (Ticks (word rest 2)))
   where
-    asked-if : (b : Bool) (x y : Asked) → P x → P y → P (cond b x y)
-    asked-if true x y p q = p
-    asked-if false x y p q = q
-
     timely : (b : Bool) → ltb (4294967295 - m .tick) (word rest 2) ≡ b → P (cond b (Refused TimeOver) (Ticks (word rest 2)))
     unfolding numberOf
     timely true e = refuse TimeOver (omega arith)
@@ -216,22 +213,22 @@ module _ (P : Asked → Type 0) (rest : List ℕ) (m : Model)
     unfolding askedBy declareAsked sampleAsked frameAsked ticksAsked numberOf
     kind-by Unknown = refuse UnknownMark (omega arith)
     kind-by Declaration =
-        asked-if (ltb (length rest) 5) _ _ (refuse Cut (omega arith))
-        (asked-if (m .running || not (eqb (byte rest 2) (m .declared))) _ _ (refuse LateOrSkipped (omega arith))
-        (asked-if (ltb (byte rest 2) 16 && modelled (byte rest 3) (byte rest 4)) _ _ declares (refuse NoSuchSensor (omega arith))))
+        by-test P (ltb (length rest) (markSize Declaration)) _ _ (refuse Cut (omega arith))
+        (by-test P (m .running || not (eqb (byte rest 2) (m .declared))) _ _ (refuse LateOrSkipped (omega arith))
+        (by-test P (ltb (byte rest 2) 16 && modelled (byte rest 3) (byte rest 4)) _ _ declares (refuse NoSuchSensor (omega arith))))
     kind-by Measurement =
-        asked-if (ltb (length rest) 7) _ _ (refuse Cut (omega arith))
-        (asked-if (known m (byte rest 2)) _ _
-        (asked-if (allowed m (byte rest 2) (sampleIn rest)) _ _ holds (refuse BadSample (omega arith)))
+        by-test P (ltb (length rest) (markSize Measurement)) _ _ (refuse Cut (omega arith))
+        (by-test P (known m (byte rest 2)) _ _
+        (by-test P (allowed m (byte rest 2) (sampleIn rest)) _ _ holds (refuse BadSample (omega arith)))
         (refuse Undeclared (omega arith)))
-    kind-by Bus = asked-if (ltb (length rest) 5) _ _ (refuse Cut (omega arith)) frames
+    kind-by Bus = by-test P (ltb (length rest) (markSize Bus)) _ _ (refuse Cut (omega arith)) frames
     kind-by Time =
-        asked-if (ltb (length rest) 4) _ _ (refuse Cut (omega arith))
-        (asked-if (eqb (word rest 2) 0) _ _ (refuse NoTicks (omega arith)) (timely (ltb (4294967295 - m .tick) (word rest 2)) refl))
+        by-test P (ltb (length rest) (markSize Time)) _ _ (refuse Cut (omega arith))
+        (by-test P (eqb (word rest 2) 0) _ _ (refuse NoTicks (omega arith)) (timely (ltb (4294967295 - m .tick) (word rest 2)) refl))
 
     pub by-kinds : P (asked rest m)
     unfolding asked numberOf
-    by-kinds = asked-if (ltb (length rest) 2) _ _ (refuse Cut (omega arith)) (kind-by (markOf (word rest 0)))
+    by-kinds = by-test P (ltb (length rest) 2) _ _ (refuse Cut (omega arith)) (kind-by (markOf (word rest 0)))
 
 -- ---- the ticks that a record asks for are within the time that is left, and two bytes hold them
 abbrev pub ticksOf : Asked → ℕ

@@ -2,9 +2,10 @@
 -- Assumes nothing.
 use Prim.Native.Nat.{ℕ, suc, _+_, _-_, _<_, _≤_}
 use Rattle.record.proofs.Laws.{put-front, put-nothing}
-use Rattle.record.specs.Marks.{ticks}
+use Rattle.record.specs.Marks.{markSize, ticks}
 use Rattle.record.specs.Numbers.{word}
 use Rattle.record.specs.Put.{put}
+use Rattle.record.specs.declared.marks.Mark.the-variants.{Time}
 use Rattle.session.specs.Session.{End}
 use Rattle.stream.specs.Stream.{remaining, unread}
 use borrow.Author.Tests.{le-ltb, lt-ltb, ne-eqb}
@@ -76,21 +77,21 @@ moves-none start b = sym (ap (λ (l : List ℕ). put 0 l b) (rw add-zero (slice-
 -- it is as long as it was
 pub remaining-long : (done : ℕ) (rest : List ℕ) → length (remaining done rest) ≡ length rest
 unfolding remaining
-remaining-long done rest = by (eqb done 0) (decLe 4 (length rest))
+remaining-long done rest = by (eqb done 0) (decLe (markSize Time) (length rest))
   where
-    by : (none : Bool) → Dec (4 ≤ length rest) → length (cond none rest (cond (ltb (length rest) 4) rest (ticks (word rest 2 - done) ++ drop 4 rest))) ≡ length rest
+    by : (none : Bool) → Dec (markSize Time ≤ length rest) → length (cond none rest (cond (ltb (length rest) (markSize Time)) rest (ticks (word rest 2 - done) ++ drop (markSize Time) rest))) ≡ length rest
     by true h = refl
-    by false (yes h) = rw (le-ltb (length rest) 4 h, length-drop) (omega arith)
-    by false (no h) = rw (lt-ltb (length rest) 4 (omega arith))
+    by false (yes h) = rw (le-ltb (length rest) (markSize Time) h, length-drop) (omega arith)
+    by false (no h) = rw (lt-ltb (length rest) (markSize Time) (omega arith))
 
 pub unread-long : (e : End) (input : List ℕ) → length (unread e input) ≡ length input - e .offset
 unfolding unread
 unread-long e input = remaining-long (e .ticks) (drop (e .offset) input) ∙ length-drop (e .offset) input
 
 -- a TK of the ticks that remain, stored byte by byte
-pub shortened : (rest : List ℕ) {done w n : ℕ} → (done ≡ 0 → ⊥) → 4 ≤ length rest → w ≡ word rest 2 → n ≡ w - done → sets rest 0 (ticks n) ≡ remaining done rest
+pub shortened : (rest : List ℕ) {done w n : ℕ} → (done ≡ 0 → ⊥) → markSize Time ≤ length rest → w ≡ word rest 2 → n ≡ w - done → sets rest 0 (ticks n) ≡ remaining done rest
 unfolding remaining
-shortened rest {done} {w} {n} some long is-word is-left = rw (ne-eqb done 0 some, le-ltb (length rest) 4 long, ← is-word, ← is-left) (sets-eq (ticks n) rest 0 long)
+shortened rest {done} {w} {n} some long is-word is-left = rw (ne-eqb done 0 some, le-ltb (length rest) (markSize Time) long, ← is-word, ← is-left) (sets-eq (ticks n) rest 0 long)
 
 -- what was moved to the front of `b` and then shortened there
 module _ (at end done : ℕ) (b : List ℕ) (h : (at ≤ end) × (end ≤ length b)) where

@@ -5,8 +5,9 @@ use Rattle.device.specs.declared.model.Model.{Model}
 use Rattle.judging.proofs.Asking.{as-ticks, asked-size, count-of, marked, ticksOf}
 use Rattle.judging.specs.Asked.{asked, askedBy, sizeOf, ticksAsked}
 use Rattle.judging.specs.declared.asked.Asked.the-variants.{Ticks}
-use Rattle.record.specs.Marks.{markOf, ticks}
+use Rattle.record.specs.Marks.{markOf, markSize, ticks}
 use Rattle.record.specs.Numbers.{word}
+use Rattle.record.specs.declared.marks.Mark.the-variants.{Time}
 use Rattle.stream.specs.Stream.{remaining}
 use borrow.Author.Tests.{le-ltb, ne-eqb}
 use lib.ListN.{drop, length}
@@ -27,10 +28,10 @@ time-asked n ys m some h =
 
 -- of a record whose first ticks were carried out, what remains is a TK of the others
 pub remaining-ticks : (m : Model) (xs : List ℕ) (t : ℕ) → suc t < ticksOf (asked xs m)
-    → remaining (suc t) xs ≡ ticks (ticksOf (asked xs m) - suc t) ++ drop 4 xs
+    → remaining (suc t) xs ≡ ticks (ticksOf (asked xs m) - suc t) ++ drop (markSize Time) xs
 unfolding remaining sizeOf
 remaining-ticks m xs t fewer =
     let sized : sizeOf (asked xs m) ≡ 4 = ap sizeOf (as-ticks (asked xs m) (omega arith)) in
-    let long : 4 ≤ length xs = omega (arith, sized, asked-size xs m) in
+    let long : markSize Time ≤ length xs = omega (arith, sized, asked-size xs m) in
     let count : ticksOf (asked xs m) ≡ word xs 2 = count-of xs m (omega arith) in
-    rw (ne-eqb (suc t) 0 (λ e. omega arith), le-ltb (length xs) 4 long, ← count)
+    rw (ne-eqb (suc t) 0 (λ e. omega arith), le-ltb (length xs) (markSize Time) long, ← count)

@@ -13,7 +13,7 @@ use Rattle.judging.specs.declared.asked.Asked.{Asked}
 use Rattle.judging.specs.declared.asked.Refusal.the-variants.{BadSample, Cut, Full, LateOrSkipped, NoSuchSensor, NoTicks, TimeOver, Undeclared, UnknownMark}
 use Rattle.judging.specs.declared.asked.Refusal.{Refusal}
 use Rattle.record.specs.Log.{AllBytes}
-use Rattle.record.specs.Marks.{markOf}
+use Rattle.record.specs.Marks.{markOf, markSize}
 use Rattle.record.specs.Numbers.{byte, word}
 use Rattle.record.specs.declared.marks.Mark.the-variants.{Bus, Declaration, Measurement, Time, Unknown}
 use Rattle.record.specs.declared.marks.Mark.{Mark}
@@ -111,25 +111,25 @@ module _ (rest : List ℕ) (m : Model) where
   unfolding asked askedBy declareAsked sampleAsked frameAsked ticksAsked
   given bytes UnknownMark (l, a, b, c, d) = marked rest m l ∙ rw (unknown-mark rest l (a, b, c, d))
   given bytes Cut (inl h) = rw (lt-ltb (length rest) 2 h)
-  given bytes Cut (inr (inl (k, h))) = in-asked rest m k ∙ rw (lt-ltb (length rest) 5 h)
-  given bytes Cut (inr (inr (inl (k, h)))) = sa-asked rest m k ∙ rw (lt-ltb (length rest) 7 h)
-  given bytes Cut (inr (inr (inr (inl (k, h))))) = fr-asked rest m k ∙ rw (lt-ltb (length rest) 5 h)
-  given bytes Cut (inr (inr (inr (inr (k, h))))) = tk-asked rest m k ∙ rw (lt-ltb (length rest) 4 h)
-  given bytes LateOrSkipped (k, h, late) = in-asked rest m k ∙ rw (le-ltb (length rest) 5 h, holds (late-tells rest m) late)
+  given bytes Cut (inr (inl (k, h))) = in-asked rest m k ∙ rw (lt-ltb (length rest) (markSize Declaration) h)
+  given bytes Cut (inr (inr (inl (k, h)))) = sa-asked rest m k ∙ rw (lt-ltb (length rest) (markSize Measurement) h)
+  given bytes Cut (inr (inr (inr (inl (k, h))))) = fr-asked rest m k ∙ rw (lt-ltb (length rest) (markSize Bus) h)
+  given bytes Cut (inr (inr (inr (inr (k, h))))) = tk-asked rest m k ∙ rw (lt-ltb (length rest) (markSize Time) h)
+  given bytes LateOrSkipped (k, h, late) = in-asked rest m k ∙ rw (le-ltb (length rest) (markSize Declaration) h, holds (late-tells rest m) late)
   given bytes NoSuchSensor (k, h, n, s) =
       in-asked rest m k
       ∙ rw (
-        le-ltb (length rest) 5 h,
+        le-ltb (length rest) (markSize Declaration) h,
         fails (late-tells rest m) n,
         fails (sensor-tells (byte rest 2) (byte rest 3) (byte rest 4)) (never-sensor (byte rest 2) (byte rest 3) (byte rest 4) s),
       )
-  given bytes Undeclared (k, h, n) = sa-asked rest m k ∙ rw (le-ltb (length rest) 7 h, fails (known-tells m (byte rest 2)) n)
+  given bytes Undeclared (k, h, n) = sa-asked rest m k ∙ rw (le-ltb (length rest) (markSize Measurement) h, fails (known-tells m (byte rest 2)) n)
   given bytes BadSample (k, h, d, n) =
       sa-asked rest m k
-      ∙ rw (le-ltb (length rest) 7 h, holds (known-tells m (byte rest 2)) d, fails (allowed-tells m (byte rest 2) (sampleIn rest) d) n)
-  given bytes NoTicks (k, h, z) = tk-asked rest m k ∙ rw (le-ltb (length rest) 4 h, eq-eqb (word rest 2) 0 z)
+      ∙ rw (le-ltb (length rest) (markSize Measurement) h, holds (known-tells m (byte rest 2)) d, fails (allowed-tells m (byte rest 2) (sampleIn rest) d) n)
+  given bytes NoTicks (k, h, z) = tk-asked rest m k ∙ rw (le-ltb (length rest) (markSize Time) h, eq-eqb (word rest 2) 0 z)
   given bytes TimeOver (k, h, n, over) =
-      tk-asked rest m k ∙ rw (le-ltb (length rest) 4 h, ne-eqb (word rest 2) 0 n, lt-ltb (4294967295 - m .tick) (word rest 2) (omega arith))
+      tk-asked rest m k ∙ rw (le-ltb (length rest) (markSize Time) h, ne-eqb (word rest 2) 0 n, lt-ltb (4294967295 - m .tick) (word rest 2) (omega arith))
   given bytes Full n = absurd n
 
   -- ---- what is given holds
@@ -143,50 +143,51 @@ module _ (rest : List ℕ) (m : Model) where
   in-says : IN rest → Says (declareAsked rest m)
   unfolding declareAsked
   in-says k =
-      go (ltb (length rest) 5) refl (m .running || not (eqb (byte rest 2) (m .declared))) refl (ltb (byte rest 2) 16 && modelled (byte rest 3) (byte rest 4)) refl
+      go (ltb (length rest) (markSize Declaration)) refl (m .running || not (eqb (byte rest 2) (m .declared))) refl
+      (ltb (byte rest 2) 16 && modelled (byte rest 3) (byte rest 4)) refl
     where
-      go : (a : Bool) → ltb (length rest) 5 ≡ a → (b : Bool) → (m .running || not (eqb (byte rest 2) (m .declared))) ≡ b
+      go : (a : Bool) → ltb (length rest) (markSize Declaration) ≡ a → (b : Bool) → (m .running || not (eqb (byte rest 2) (m .declared))) ≡ b
           → (c : Bool) → (ltb (byte rest 2) 16 && modelled (byte rest 3) (byte rest 4)) ≡ c
           → Says (cond a (Refused Cut) (cond b (Refused LateOrSkipped) (cond c (Declare (byte rest 3) (byte rest 4)) (Refused NoSuchSensor))))
-      go true e b f c g = inr (inl (k, ltb-true (length rest) 5 e))
-      go false e true f c g = (k, ltb-false (length rest) 5 e, late-tells rest m .yes f)
+      go true e b f c g = inr (inl (k, ltb-true (length rest) (markSize Declaration) e))
+      go false e true f c g = (k, ltb-false (length rest) (markSize Declaration) e, late-tells rest m .yes f)
       go false e false f true g = tt
       go false e false f false g =
           let none = no-sensor (byte rest 2) (byte rest 3) (byte rest 4) (sensor-tells (byte rest 2) (byte rest 3) (byte rest 4) .no g) in
-          (k, ltb-false (length rest) 5 e, late-tells rest m .no f, none)
+          (k, ltb-false (length rest) (markSize Declaration) e, late-tells rest m .no f, none)
 
   sa-says : SA rest → Says (sampleAsked rest m)
   unfolding sampleAsked
-  sa-says k = go (ltb (length rest) 7) refl (known m (byte rest 2)) refl (allowed m (byte rest 2) (sampleIn rest)) refl
+  sa-says k = go (ltb (length rest) (markSize Measurement)) refl (known m (byte rest 2)) refl (allowed m (byte rest 2) (sampleIn rest)) refl
     where
-      go : (a : Bool) → ltb (length rest) 7 ≡ a → (b : Bool) → known m (byte rest 2) ≡ b → (c : Bool) → allowed m (byte rest 2) (sampleIn rest) ≡ c
+      go : (a : Bool) → ltb (length rest) (markSize Measurement) ≡ a → (b : Bool) → known m (byte rest 2) ≡ b → (c : Bool) → allowed m (byte rest 2) (sampleIn rest) ≡ c
           → Says (cond a (Refused Cut) (cond b (cond c (Hold (byte rest 2) (sampleIn rest)) (Refused BadSample)) (Refused Undeclared)))
-      go true e b f c g = inr (inr (inl (k, ltb-true (length rest) 7 e)))
-      go false e false f c g = (k, ltb-false (length rest) 7 e, known-tells m (byte rest 2) .no f)
+      go true e b f c g = inr (inr (inl (k, ltb-true (length rest) (markSize Measurement) e)))
+      go false e false f c g = (k, ltb-false (length rest) (markSize Measurement) e, known-tells m (byte rest 2) .no f)
       go false e true f true g = tt
       go false e true f false g =
           let d = known-tells m (byte rest 2) .yes f in
-          (k, ltb-false (length rest) 7 e, d, allowed-tells m (byte rest 2) (sampleIn rest) d .no g)
+          (k, ltb-false (length rest) (markSize Measurement) e, d, allowed-tells m (byte rest 2) (sampleIn rest) d .no g)
 
   fr-says : FR rest → Says (frameAsked rest)
   unfolding frameAsked
-  fr-says k = go (ltb (length rest) 5) refl
+  fr-says k = go (ltb (length rest) (markSize Bus)) refl
     where
-      go : (a : Bool) → ltb (length rest) 5 ≡ a → Says (cond a (Refused Cut) (Frame (byte rest 2) (byte rest 3) (byte rest 4)))
-      go true e = inr (inr (inr (inl (k, ltb-true (length rest) 5 e))))
+      go : (a : Bool) → ltb (length rest) (markSize Bus) ≡ a → Says (cond a (Refused Cut) (Frame (byte rest 2) (byte rest 3) (byte rest 4)))
+      go true e = inr (inr (inr (inl (k, ltb-true (length rest) (markSize Bus) e))))
       go false e = tt
 
   tk-says : TK rest → Says (ticksAsked rest m)
   unfolding ticksAsked
-  tk-says k = go (ltb (length rest) 4) refl (eqb (word rest 2) 0) refl (ltb (4294967295 - m .tick) (word rest 2)) refl
+  tk-says k = go (ltb (length rest) (markSize Time)) refl (eqb (word rest 2) 0) refl (ltb (4294967295 - m .tick) (word rest 2)) refl
     where
-      go : (a : Bool) → ltb (length rest) 4 ≡ a → (b : Bool) → eqb (word rest 2) 0 ≡ b → (c : Bool) → ltb (4294967295 - m .tick) (word rest 2) ≡ c
+      go : (a : Bool) → ltb (length rest) (markSize Time) ≡ a → (b : Bool) → eqb (word rest 2) 0 ≡ b → (c : Bool) → ltb (4294967295 - m .tick) (word rest 2) ≡ c
           → Says (cond a (Refused Cut) (cond b (Refused NoTicks) (cond c (Refused TimeOver) (Ticks (word rest 2)))))
-      go true e b f c g = inr (inr (inr (inr (k, ltb-true (length rest) 4 e))))
-      go false e true f c g = (k, ltb-false (length rest) 4 e, eqb-true (word rest 2) 0 f)
+      go true e b f c g = inr (inr (inr (inr (k, ltb-true (length rest) (markSize Time) e))))
+      go false e true f c g = (k, ltb-false (length rest) (markSize Time) e, eqb-true (word rest 2) 0 f)
       go false e false f true g =
           let h = ltb-true (4294967295 - m .tick) (word rest 2) g in
-          (k, ltb-false (length rest) 4 e, eqb-false (word rest 2) 0 f, omega arith)
+          (k, ltb-false (length rest) (markSize Time) e, eqb-false (word rest 2) 0 f, omega arith)
       go false e false f false g = tt
 
   says : AllBytes rest → Says (asked rest m)

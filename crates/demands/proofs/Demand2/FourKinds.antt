@@ -13,7 +13,7 @@ use Rattle.judging.specs.declared.asked.Asked.{Asked}
 use Rattle.judging.specs.declared.asked.Refusal.the-variants.{BadSample, Cut, LateOrSkipped, NoSuchSensor, NoTicks, TimeOver, Undeclared, UnknownMark}
 use Rattle.judging.specs.declared.asked.Refusal.{Refusal}
 use Rattle.record.specs.Log.{AllBytes}
-use Rattle.record.specs.Marks.{markOf}
+use Rattle.record.specs.Marks.{markOf, markSize}
 use Rattle.record.specs.Numbers.{byte, word}
 use Rattle.record.specs.declared.marks.Mark.the-variants.{Bus, Declaration, Measurement, Time, Unknown}
 use Rattle.record.specs.declared.marks.Mark.{Mark}
@@ -88,12 +88,12 @@ module _ (zs : List ℕ) (m : Model) (bytes : AllBytes zs) (none : NoneGiven zs 
   unfolding declareAsked sampleAsked frameAsked ticksAsked sizeOf
   asks (declares k) =
       asks-for (Declare (byte zs 3) (byte zs 4)) (omega arith)
-      (declare-asked (ltb (length zs) 5) (m .running || not (eqb (byte zs 2) (m .declared)))
+      (declare-asked (ltb (length zs) (markSize Declaration)) (m .running || not (eqb (byte zs 2) (m .declared)))
       (ltb (byte zs 2) 16 && modelled (byte zs 3) (byte zs 4)) (in-asked zs m k))
   asks (holds k) =
       asks-for (Hold (byte zs 2) (sampleIn zs)) (omega arith)
-      (hold-asked (ltb (length zs) 7) (known m (byte zs 2)) (allowed m (byte zs 2) (sampleIn zs)) (sa-asked zs m k))
-  asks (frames k) = asks-for (Frame (byte zs 2) (byte zs 3) (byte zs 4)) (omega arith) (frame-asked (ltb (length zs) 5) (fr-asked zs m k))
+      (hold-asked (ltb (length zs) (markSize Measurement)) (known m (byte zs 2)) (allowed m (byte zs 2) (sampleIn zs)) (sa-asked zs m k))
+  asks (frames k) = asks-for (Frame (byte zs 2) (byte zs 3) (byte zs 4)) (omega arith) (frame-asked (ltb (length zs) (markSize Bus)) (fr-asked zs m k))
   asks (passes k) =
       asks-for (Ticks (word zs 2)) (omega arith)
-      (ticks-asked (ltb (length zs) 4) (eqb (word zs 2) 0) (ltb (4294967295 - m .tick) (word zs 2)) (tk-asked zs m k))
+      (ticks-asked (ltb (length zs) (markSize Time)) (eqb (word zs 2) 0) (ltb (4294967295 - m .tick) (word zs 2)) (tk-asked zs m k))

@@ -14,7 +14,8 @@ use Rattle.judging.specs.declared.asked.Asked.the-variants.{Ticks}
 use Rattle.judging.specs.declared.asked.Refusal.{Refusal}
 use Rattle.record.proofs.Log.{bytes-append}
 use Rattle.record.specs.Log.{Logged}
-use Rattle.record.specs.Marks.{ticks}
+use Rattle.record.specs.Marks.{markSize, ticks}
+use Rattle.record.specs.declared.marks.Mark.the-variants.{Time}
 use Rattle.session.proofs.Kept.{Kept, part-left, refused-kept, same-left}
 use Rattle.session.proofs.Records.{after-log, ended, step-behind}
 use Rattle.session.proofs.Room.{later, nothing-left, room-behind, roomier, size, ticked, ticking-later}
@@ -70,16 +71,16 @@ module _ (m : Model) (xs ys : List ℕ) (room big t : ℕ) (m′ : Model) (log :
   unfolding sizeOf
   sized = ap sizeOf here
 
-  long : 4 ≤ length xs
+  long : markSize Time ≤ length xs
   long = omega (arith, sized, asked-size xs m)
 
   whole : asked (xs ++ ys) m ≡ Ticks n
   whole = alone xs m (omega (arith, sized)) (xs ++ ys) (extended (sizeOf (asked xs m)) xs ys (omega (arith, sized, long))) ∙ here
 
-  others : asked ((ticks j ++ drop 4 xs) ++ ys) m′ ≡ Ticks j
+  others : asked ((ticks j ++ drop (markSize Time) xs) ++ ys) m′ ≡ Ticks j
   others =
       let rise = ticked (suc t) 0 room big m [] m′ log stand .rise in
-      time-asked j (drop 4 xs ++ ys) m′ (omega arith) (omega (arith, time-left xs m))
+      time-asked j (drop (markSize Time) xs ++ ys) m′ (omega arith) (omega (arith, time-left xs m))
 
   steps : step (Ticks n) big m [] ≡ later (suc t) (after-log log (step (Ticks j) (big - size log) m′ []))
   unfolding step
@@ -98,12 +99,12 @@ module _ (m : Model) (xs ys : List ℕ) (room big t : ℕ) (m′ : Model) (log :
       (session-from m (xs ++ ys) big (rw length-append (omega (arith, long)))
       ∙ ap (λ a. from (sizeOf a) (drop (sizeOf a) (xs ++ ys)) big (step a big m [])) whole
       ∙ ap₂ (λ l o. from 4 l big o) (drop-append-le 4 xs ys long) steps)
-      ∙ from-later (suc t) 4 (drop 4 xs ++ ys) big log (step (Ticks j) (big - size log) m′ [])
+      ∙ from-later (suc t) (markSize Time) (drop (markSize Time) xs ++ ys) big log (step (Ticks j) (big - size log) m′ [])
       ∙ ap (λ e. untimed (behind 0 log e))
       (sym
       (ap (λ l. session m′ (l ++ ys) (big - size log)) (remaining-ticks m xs t fewer)
-      ∙ session-from m′ ((ticks j ++ drop 4 xs) ++ ys) (big - size log) (omega arith)
-      ∙ ap (λ a. from (sizeOf a) (drop (sizeOf a) ((ticks j ++ drop 4 xs) ++ ys)) (big - size log) (step a (big - size log) m′ [])) others))
+      ∙ session-from m′ ((ticks j ++ drop (markSize Time) xs) ++ ys) (big - size log) (omega arith)
+      ∙ ap (λ a. from (sizeOf a) (drop (sizeOf a) ((ticks j ++ drop (markSize Time) xs) ++ ys)) (big - size log) (step a (big - size log) m′ [])) others))
 
 -- ---- every reading
 abbrev Onward : Model → List ℕ → (room : ℕ) → End → Type 0
