@@ -1,9 +1,10 @@
 #!/bin/sh
-# What a tick costs in the proved library and in the plain C implementation built at -O3 for the same processor, side by side.
+# What a tick, and one widening by itself, cost in the proved library and in the plain C implementation built at -O3 for the same
+# processor, side by side.
 #   bench/run.sh [whole]
 # On x86-64 it is time, in nanoseconds a tick; elsewhere instructions a tick, counted under the kit's emulator. A cost is the difference of
-# two runs that differ in their number of ticks alone. The long runs are timed; elsewhere, with `whole`, their instructions are counted,
-# which takes half an hour.
+# two runs that differ in their number of ticks, or of widenings, alone. The long runs are timed; elsewhere, with `whole`, their
+# instructions are counted, which takes half an hour.
 set -eu
 cd "$(dirname "$0")/.."
 . tests/lib/build.sh
@@ -12,13 +13,40 @@ c_object "$built/second3.o" tests/second/second.c -O3
 c_object "$built/cost.o" bench/cost.c -Itests -O3
 c_program "$built/cost" "$built/cost.o" "$built/second3.o" target/staticlib/libsession.a
 
+# Of the library C can call a session and no widening by itself: for that a repository of crate widen and of one that exports it.
+alone=$built/alone
+rm -rf "$alone"
+mkdir -p "$alone/crates/alone/src"
+cp -R crates/promise crates/widen "$alone/crates"
+printf 'promise:\nwiden: promise\nalone: widen promise\n' >"$alone/crates.txt"
+cat >"$alone/crates/alone/src/lib.rt" <<'end'
+ghost use Prim.Native.Nat.{min};
+ghost use Rattle.widen.specs.Width.{widened};
+ghost use mathlib.Core.Path.{_≡_};
+
+#[no_mangle]
+pub extern "C" fn library_widened(value: u32, resolution: u8, wide: u8) -> u32
+    ensures { λ r. ⌜ r ≡ widened value resolution (min wide 32) ⌝ }
+{
+    widen::widened(value, resolution, wide)
+}
+end
+(mkdir "$alone/target" && cd "$alone" && c_library alone)
+c_object "$built/widening.o" bench/widening.c -Itests -O3
+c_program "$built/widening" "$built/widening.o" "$alone/target/staticlib/libalone.a"
+
 now() { date +%s%N; }
 
-# Nanoseconds of a run.
+# Nanoseconds of a run of PROGRAM ARGUMENT..., the least of three: the machine may have other work.
 timed() {
-    start=$(now)
-    c_run "$built/cost" "$@" >/dev/null
-    echo $(($(now) - start))
+    least=
+    for _ in 1 2 3; do
+        start=$(now)
+        c_run "$@" >/dev/null
+        took=$(($(now) - start))
+        [ -n "$least" ] && [ "$least" -le "$took" ] || least=$took
+    done
+    echo "$least"
 }
 
 # Instructions of a run. The emulator tells of each block of instructions when it translates it, and traces each time that it runs one.
@@ -31,7 +59,7 @@ counted() {
         /^ ----/ { split($0, word, " "); if (begins) { block = word[2]; size[block] = 0; begins = 0 } size[block]++ }
         END { printf "%.0f\n", sum }' "$fifo" >"$fifo.count" &
     "$c_tools/bin/qemu-x86_64" -d op,exec,nochain -D "$fifo" \
-        "$c_tools/lib/ld-linux-x86-64.so.2" --library-path "$c_tools/lib" "$built/cost" "$@" >/dev/null
+        "$c_tools/lib/ld-linux-x86-64.so.2" --library-path "$c_tools/lib" "$@" >/dev/null
     wait
     cat "$fifo.count"
     rm -f "$fifo" "$fifo.count"
@@ -43,15 +71,21 @@ else
     measure=counted times=1 unit='instructions a tick' whole=${1:-}
 fi
 
+# each FEWER PROGRAM ARGUMENT...: the cost of one turn, by runs of FEWER turns and of six times as many
+each() {
+    fewer=$(($1 * times)) more=$(($1 * 6 * times))
+    shift
+    a=$($measure "$@" "$fewer")
+    b=$($measure "$@" "$more")
+    awk "BEGIN { printf \"%.1f\", ($b - $a) / ($more - $fewer) }"
+}
+
 # per_tick WHICH INSTANCES LOAD: over whole report periods of 600 ticks, but where every tick is like the last
 per_tick() {
     case $3 in
-    busy) fewer=$((20 * times)) more=$((120 * times)) ;;
-    *) fewer=$((600 * times)) more=$((3600 * times)) ;;
+    busy) each 20 "$built/cost" "$@" ;;
+    *) each 600 "$built/cost" "$@" ;;
     esac
-    a=$($measure "$1" "$2" "$3" "$fewer")
-    b=$($measure "$1" "$2" "$3" "$more")
-    awk "BEGIN { printf \"%.1f\", ($b - $a) / ($more - $fewer) }"
 }
 
 # row NAME FIRST SECOND; and of a long run: long NAME MEASURE UNIT HOURS
@@ -59,8 +93,8 @@ row() {
     printf '%-48s %12s %12s %7s\n' "$1" "$2" "$3" "$(awk "BEGIN { printf \"%.2f\", $2 / $3 }")"
 }
 long() {
-    first=$($2 first 16 quiet $(($4 * 72000)))
-    second=$($2 second 16 quiet $(($4 * 72000)))
+    first=$($2 "$built/cost" first 16 quiet $(($4 * 72000)))
+    second=$($2 "$built/cost" second 16 quiet $(($4 * 72000)))
     row "$4 hours of 16, quiet: $1 in all" $((first / $3)) $((second / $3))
 }
 
@@ -70,6 +104,7 @@ for load in quiet sampled busy; do
         row "$instances instances, $load" "$(per_tick first $instances $load)" "$(per_tick second $instances $load)"
     done
 done
+row 'one widening, 9 bits to 16' "$(each 5000 "$built/widening" first)" "$(each 5000 "$built/widening" second)"
 for hours in 8 48; do
     long ms timed 1000000 "$hours"
     [ -z "$whole" ] || long 'thousand instructions' counted 1000 "$hours"
