@@ -1,12 +1,12 @@
 -- The laws of `widened`, each over every value, resolution and width: the rule itself, and what users of it rely on.
 -- Assumes nothing.
-use Prim.Native.Nat.{ℕ, zero, suc, _+_, _-_, _*_, _/_, _%_, _^_, _≤_, _<_}
+use Prim.Native.Nat.{ℕ, zero, suc, _+_, _-_, _*_, _/_, _%_, _^_, _≤_, _<_, max}
 use Rattle.widen.specs.Width.{inputBytes, inputValue, mask, topBit, widened}
 use lib.Arith.{lt-one}
 use lib.Dec.{lit<}
 use lib.Pow.{high, mod-pow-add, ones-lt, ones-split, pow-mono, shl-exact, shr-shr}
-use mathlib.Core.Path.{_≡_, sym, ap, _∙_}
-use native.Mathlib.Nat.{add-suc, add-zero, div-eq-of-lt, div-one, le-of-lt, le-refl, lt-of-lt-of-le, mod-eq-of-lt, mod-one, one-mul, pow-suc, sub-self}
+use mathlib.Core.Path.{_≡_, refl, sym, ap, _∙_}
+use native.Mathlib.Nat.{add-mod, add-suc, add-zero, div-one, le-of-lt, le-refl, lt-of-lt-of-le, mod-add-mod, mod-eq-of-lt, mod-one, mul-assoc, one-mul, pow-suc, sub-self, zero-add, zero-mod}
 use native.Mathlib.Numerals.{add-one, one-add}
 use native.Mathlib.Omega.{arith}
 
@@ -14,10 +14,6 @@ use native.Mathlib.Omega.{arith}
 -- a bit by its place s counted from the bottom
 pub low-bit : (n x j s : ℕ) → n - suc j ≡ s → topBit n x j ≡ x / 2 ^ s % 2
 low-bit n x j s e = ap (λ (k : ℕ). x / 2 ^ k % 2) e
-
--- a bit above all of a number's m bits
-pub no-bit : (n x j m : ℕ) → x < 2 ^ m → m ≤ n - suc j → topBit n x j ≡ 0
-no-bit n x j m h l = ap (λ (y : ℕ). y % 2) (div-eq-of-lt (lt-of-lt-of-le h (pow-mono l)))
 
 pub below : (v r w : ℕ) → widened v r w < 2 ^ w
 unfolding widened
@@ -27,17 +23,12 @@ below v r (suc w) = omega (arith, below v r w, pow-suc 2 w)
 pub under : (v r w k : ℕ) → w ≤ k → widened v r w < 2 ^ k
 under v r w k h = lt-of-lt-of-le (below v r w) (pow-mono h)
 
--- one bit more, as code counts
-pub step : (v r w : ℕ) → widened v r (w + 1) ≡ widened v r w * 2 + topBit r v (w % r)
-unfolding widened
-step v r w = rw (add-one w)
-
 -- the first a bits from the top are those of the width a
 pub cut : (v r a k : ℕ) → widened v r (a + k) / 2 ^ k ≡ widened v r a
 unfolding widened
 cut v r a zero = rw (add-zero, div-one)
 cut v r a (suc k) =
-    let y = widened v r (a + k) * 2 + topBit r v ((a + k) % r) in
+    let y = widened v r (suc (a + k)) in
     let half : y / 2 ≡ widened v r (a + k) = omega arith in
     let down : y / 2 / 2 ^ k ≡ y / 2 ^ suc k = rw one-add at (shr-shr y 1 k) in
     rw (add-suc a k) (sym down ∙ ap (λ (x : ℕ). x / 2 ^ k) half ∙ cut v r a k)
@@ -69,6 +60,26 @@ first v r (suc k) h =
 pub whole : (v r : ℕ) → widened v r r ≡ v % 2 ^ r
 whole v r = first v r r (le-refl r) ∙ rw (sub-self r, div-one v)
 
+-- a resolution of 0 counts as 1
+pub none-as-one : (v r w : ℕ) → widened v (max 1 r) w ≡ widened v r w
+unfolding widened
+none-as-one v zero zero = refl
+none-as-one v zero (suc w) =
+    let one = low-bit 1 v (w % 1) 0 (omega arith) in
+    let none = low-bit 0 v (w % 0) 0 (omega arith) in
+    omega (arith, none-as-one v zero w, one, none)
+none-as-one v (suc r) w = ap (λ (x : ℕ). widened v x w) (omega arith)
+
+-- after whole copies the filling starts again
+pub again : (v r a k : ℕ) → a % r ≡ 0 → widened v r (a + k) ≡ widened v r a * 2 ^ k + widened v r k
+unfolding widened
+again v r a zero h = ap (widened v r) (add-zero a) ∙ omega arith
+again v r a (suc k) h =
+    let same : (a + k) % r ≡ k % r = sym (mod-add-mod a r k) ∙ rw (h, zero-add) in
+    let b = ap (λ (j : ℕ). topBit r v j) same in
+    let up = ap (λ (x : ℕ). widened v r a * x) (pow-suc 2 k) in
+    rw (add-suc a k) (omega (arith, again v r a k h, b, pow-suc 2 k, up, mul-assoc (widened v r a) (2 ^ k) 2))
+
 -- the rule fixes the number: what has w bits and obeys it is the widened value
 pub only : (v r w x : ℕ) → x < 2 ^ w → ((j : ℕ) → j < w → topBit w x j ≡ topBit r v (j % r)) → x ≡ widened v r w
 unfolding widened
@@ -97,6 +108,21 @@ never-mask v r h l e =
     let back : v ≡ 2 ^ r - 1 = sym (recover v r (omega arith) l) ∙ ap (λ (y : ℕ). y / 2 ^ k) (e ∙ ones) ∙ high (2 ^ r - 1) k (ones-lt k) in
     omega arith
 
+-- ---- as code has it
 -- `1 << k` at 64 bits
 pub one-shl : (k : ℕ) → k < 64 → (1 * 2 ^ k) % 2 ^ 64 ≡ 2 ^ k
 one-shl k h = shl-exact {a = 1} 1 k 64 (lit< tt) (omega arith) ∙ one-mul (2 ^ k)
+
+-- twice as many whole copies, by one shift at 64 bits and one addition
+pub twice : (v r a out : ℕ) → out ≡ widened v r a → a % r ≡ 0 → a ≤ 32 → (out * 2 ^ a) % 2 ^ 64 + out ≡ widened v r (a + a)
+twice v r a out e h l = rw (e, shl-exact a a 64 (below v r a) (omega arith)) (sym (again v r a a h))
+
+pub twice-fits : (v r a out : ℕ) → out ≡ widened v r a → a % r ≡ 0 → a ≤ 32 → (out * 2 ^ a) % 2 ^ 64 + out < 2 ^ 64
+twice-fits v r a out e h l = rw (twice v r a out e h l) (under v r (a + a) 64 (omega arith))
+
+pub still-whole : (a r : ℕ) → a % r ≡ 0 → (a + a) % r ≡ 0
+still-whole a r h = add-mod a a r ∙ rw (h, zero-mod)
+
+-- whole copies cut off at the low end
+pub cut-off : (v r a n out : ℕ) → out ≡ widened v (max 1 r) a → n ≤ a → out / 2 ^ (a - n) % 2 ^ n ≡ widened v r n
+cut-off v r a n out e h = rw (e, cut-to v (max 1 r) a n h) (mod-eq-of-lt (below v (max 1 r) n) ∙ none-as-one v r n)
