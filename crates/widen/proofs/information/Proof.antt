@@ -1,6 +1,6 @@
 -- `widen::information` meets its contract: ten bits fit.
 -- Assumes nothing.
-use Rattle.widen.proofs.Laws.{below}
+use Rattle.widen.proofs.Laws.{under}
 use Rattle.widen.proofs.information.Statement.{statement}
 use Rattle.widen.proofs.information.Tie as tie
 use borrow.Author.Needs.{needs}
@@ -10,7 +10,7 @@ widened-requires : tie.Need-widened-requires
 widened-requires c κs = search needs
 
 cast-result : tie.Need-cast-result
-cast-result c = omega (arith, below (c .before .args .value) (c .before .args .resolution) 10)
+cast-result c = record { fits = rw (c .widened .ensures) (under _ _ _ 16 (omega arith)) }
 
 returns : tie.Need-returns
 returns c = search needs

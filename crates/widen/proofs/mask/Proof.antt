@@ -5,7 +5,7 @@ use Rattle.widen.proofs.Laws.{one-shl}
 use Rattle.widen.proofs.mask.Statement.{statement}
 use Rattle.widen.proofs.mask.Tie as tie
 use borrow.Author.Needs.{needs}
-use lib.Pow.{pow-pos, pow-mono}
+use lib.Pow.{pow-mono}
 use mathlib.Core.Path.{ap, _∙_}
 use native.Mathlib.Omega.{arith}
 
@@ -24,7 +24,8 @@ shl-result c = search needs
 sub-result : tie.Need-sub-result
 sub-result c =
     let w = 8 * c .input-bytes .result in
-    omega (arith, one-shl w (omega arith), pow-pos w)
+    let least : 8 ≤ w = omega arith in
+    omega (arith, one-shl w (omega arith), pow-mono least)
 
 cast-result-2 : tie.Need-cast-result-2
 cast-result-2 c =
