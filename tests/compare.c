@@ -1,5 +1,5 @@
 /* Compares the library with the second implementation on sessions from a seed.
- *   compare SEED COUNT [PROFILE]      PROFILE is one of a to j (lib/generator.h); without it, the seeds choose
+ *   compare SEED COUNT [PROFILE]      PROFILE is one of those in lib/generator.h; without it, the seeds choose
  * Ends with status 1 at the first difference, which it prints. */
 #include "lib/comparison.h"
 #include "lib/generator.h"
@@ -32,8 +32,8 @@ static const implementation FIRST = {"the library", read_first}, SECOND = {"the 
 
 int main(int argc, char **argv)
 {
-    if (argc < 3 || argc > 4 || (argc == 4 && (argv[3][0] < 'a' || argv[3][0] > 'j' || argv[3][1] != 0))) {
-        printf("usage: compare SEED COUNT [PROFILE a to j]\n");
+    if (argc < 3 || argc > 4 || (argc == 4 && (argv[3][0] < 'a' || argv[3][0] > GENERATOR_LAST_PROFILE || argv[3][1] != 0))) {
+        printf("usage: compare SEED COUNT [PROFILE a to %c]\n", GENERATOR_LAST_PROFILE);
         return 2;
     }
     uint64_t seed = strtoull(argv[1], NULL, 10), count = strtoull(argv[2], NULL, 10);

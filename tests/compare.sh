@@ -1,6 +1,6 @@
 #!/bin/sh
 # Compares the library with the second implementation.
-#   tests/compare.sh [SEED [COUNT [PROFILE]]]     COUNT cases (24,000) from SEED (1), of one of the profiles a to j, or of all
+#   tests/compare.sh [SEED [COUNT [PROFILE]]]     COUNT cases (24,000) from SEED (1), of one profile of lib/generator.h, or of all
 set -eu
 cd "$(dirname "$0")/.."
 . tests/lib/build.sh

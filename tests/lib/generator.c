@@ -508,14 +508,22 @@ static void far_ticks(generator *g, test_case *c)
     mixed_traffic(g);
 }
 
-/* ---- Profile j: every third byte ---- */
+/* ---- A pair: an instance of each type ---- */
 
-/* An instance of each type, and the deadtime that both are set to. */
+/* The two, and the deadtime that both are set to. */
 typedef struct {
     unsigned light, occupancy, deadtime;
 } pair;
 
-/* Settings that are not the DTR0 that the third byte finds nor, but for light's filter, the defaults; a report every 20 ticks. */
+static void declare_pair(generator *g, pair p)
+{
+    for (unsigned i = 0; i < 2; i++) {
+        if (i == p.light) declare(g, LIGHT, 10 + below(g, 15));
+        else declare(g, OCCUPANCY, 2);
+    }
+}
+
+/* Settings that are not the DTR0 of profile j nor, but for light's filter, the defaults; a report every 20 ticks. */
 static void settle(generator *g, unsigned number, unsigned deadtime)
 {
     bool light = g->instance[number].type == LIGHT;
@@ -542,6 +550,8 @@ static void put_to_both(generator *g, pair p, unsigned opcode)
     put_command(g, p.light, opcode);
     put_command(g, p.occupancy, opcode);
 }
+
+/* ---- Profile j: every third byte ---- */
 
 /* The third byte after a DTR0 that each setting of the type would take, and that is none of its defaults. */
 static void put_third_byte(generator *g, pair p, unsigned byte)
@@ -595,12 +605,78 @@ static void third_bytes(generator *g, unsigned first)
 {
     unsigned light = below(g, 2);
     pair p = {.light = light, .occupancy = 1 - light, .deadtime = ONE_OF(g, 3, 4, 6)};
-    for (unsigned i = 0; i < 2; i++) {
-        if (i == p.light) declare(g, LIGHT, 10 + below(g, 15));
-        else declare(g, OCCUPANCY, 2);
-    }
+    declare_pair(g, p);
     if (chance(g, 50)) swing(g, p), put_tk(g, 31);
     for (unsigned i = 0; i < 16; i++) turn(g, p, first + i);
+}
+
+/* ---- Profile k: deadtime set while dead time runs ---- */
+
+static void set_both(generator *g, pair p, unsigned (*opcode)(const sketch *), unsigned dtr0)
+{
+    set_to(g, p.light, opcode(&g->instance[p.light]), (uint8_t)dtr0);
+    set_to(g, p.occupancy, opcode(&g->instance[p.occupancy]), (uint8_t)dtr0);
+}
+
+/* An event of each, which starts dead time and, at least as long, the report timer. */
+static void send_both(generator *g, pair p)
+{
+    settle(g, p.light, 0);
+    settle(g, p.occupancy, 0);
+    swing(g, p);
+    put_tk(g, 1);
+    set_both(g, p, deadtime_opcode, p.deadtime);
+    set_both(g, p, report_opcode, ONE_OF(g, 1, 1, 2, 3));
+    swing(g, p);
+    put_tk(g, 1);
+}
+
+/* A report timer of 20 ticks, started while a longer dead time runs. */
+static void start_reports(generator *g, pair p)
+{
+    set_both(g, p, deadtime_opcode, 1);
+    set_both(g, p, report_opcode, 0);
+    set_both(g, p, report_opcode, 1);
+}
+
+/* Up to two ticks before the end of dead time: nothing is held back, or a change waits, or a report is due, or both. */
+static void hold_back(generator *g, pair p)
+{
+    bool due = p.deadtime > 22 && chance(g, 30);
+    if (due) start_reports(g, p);
+    if (chance(g, 50)) swing(g, p);
+    if (due) put_tk(g, 20 + below(g, p.deadtime - 21));
+    else put_tk(g, 1 + below(g, p.deadtime - 2));
+}
+
+/* Deadtime set to 0, to 1 or to that with which dead time was started; sometimes while disabled, or in a failure, and sometimes with
+ * another deadtime before the next tick. */
+static void set_in_dead_time(generator *g, pair p)
+{
+    unsigned how = below(g, 10);
+    if (how == 0) put_to_both(g, p, 0x63);
+    if (how == 1) put_sa(g, p.light, 2, 0), put_sa(g, p.occupancy, 2, 0), put_tk(g, 1);
+    set_both(g, p, deadtime_opcode, ONE_OF(g, 0, 0, 1, p.deadtime));
+    if (how == 0) put_to_both(g, p, 0x62);
+    if (how == 1) swing(g, p);
+    if (how == 2) set_both(g, p, deadtime_opcode, p.deadtime);
+}
+
+/* Dead time starts, deadtime is set while it runs, and ticks follow past the ends of that dead time and of the report timer. */
+static void deadtimes_set(generator *g)
+{
+    unsigned light = below(g, 2);
+    pair p = {.light = light, .occupancy = 1 - light};
+    declare_pair(g, p);
+    for (unsigned i = 0; i < 8; i++) {
+        p.deadtime = ONE_OF(g, 3, 10, 25, 45, 90);
+        send_both(g, p);
+        hold_back(g, p);
+        set_in_dead_time(g, p);
+        put_tk(g, 1);
+        if (chance(g, 50)) swing(g, p);
+        put_tk(g, 90 + below(g, 10));
+    }
 }
 
 /* ---- The choice by the seed ---- */
@@ -615,7 +691,7 @@ static unsigned place_of(uint64_t seed)
 static char profile_of(uint64_t seed)
 {
     static const struct { unsigned up_to; char profile; } shares[] = {
-        {17, 'a'}, {32, 'b'}, {47, 'c'}, {60, 'd'}, {63, 'e'}, {75, 'f'}, {86, 'g'}, {90, 'h'}, {92, 'i'}, {100, 'j'},
+        {17, 'a'}, {32, 'b'}, {47, 'c'}, {56, 'd'}, {60, 'k'}, {63, 'e'}, {75, 'f'}, {86, 'g'}, {90, 'h'}, {92, 'i'}, {100, 'j'},
     };
     unsigned i = 0;
     while (place_of(seed) >= shares[i].up_to) i++;
@@ -643,6 +719,7 @@ test_case generate(uint64_t seed, char profile)
     case 'g': c.log_len = below(&g, 401); short_output(&g); break;
     case 'h': last_ticks(&g, &c); break;
     case 'i': far_ticks(&g, &c); break;
+    case 'k': deadtimes_set(&g); break;
     default: third_bytes(&g, first_third_byte(seed)); break;
     }
     c.session = buffer;

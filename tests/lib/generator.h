@@ -16,6 +16,7 @@
  *   h  ticks near 4,294,967,295
  *   i  tick numbers of four bytes
  *   j  every third byte, to light and to occupancy; all of them within 200 seeds
+ *   k  deadtime set while dead time runs, of light and of occupancy
  */
 typedef struct {
     uint64_t seed;
@@ -26,9 +27,9 @@ typedef struct {
     uint32_t start_tick; /* the tick number that the model begins with; 0 but for profiles h and i */
 } test_case;
 
-enum { GENERATOR_LOG_MAX = 4096 };
+enum { GENERATOR_LOG_MAX = 4096, GENERATOR_LAST_PROFILE = 'k' };
 
-/* The profile is one of a to j, or 0: the seed chooses. */
+/* The profile is one of a to GENERATOR_LAST_PROFILE, or 0: the seed chooses. */
 test_case generate(uint64_t seed, char profile);
 
 #endif

@@ -101,7 +101,17 @@
     X(REPORT_RESTARTED_BY_SET, "report set above 0 always starts the timer") \
     X(DUE_IS_STOPPED, "report set above 0 while due starts the timer") \
     X(DEAD_TIME_SET_AT_ONCE, "deadtime set while dead time runs starts it anew") \
-    X(DEAD_TIME_0_STOPS, "deadtime set to 0 ends the running dead time") \
+    X(DEAD_TIME_0_RUNS_ON, "deadtime set to 0 does not end the running dead time") \
+    X(DEAD_TIME_0_LIGHT_ALONE, "deadtime set to 0 ends the running dead time of light alone") \
+    X(DEAD_TIME_0_OCCUPANCY_ALONE, "deadtime set to 0 ends the running dead time of occupancy alone") \
+    X(DEAD_TIME_0_WAITS_DISABLED, "deadtime set to 0 while disabled does not end the running dead time") \
+    X(DEAD_TIME_0_WAITS_FAILED, "deadtime set to 0 in a failure does not end the running dead time") \
+    X(DEAD_TIME_0_SUSPENDS, "deadtime set to 0 only suspends: dead time left when deadtime is set above 0 holds again") \
+    X(DEAD_TIME_1_ENDS, "deadtime set to 1 ends the running dead time too") \
+    X(DEAD_TIME_0_STARTS_REPORT, "deadtime set to 0 starts the report timer again") \
+    X(DEAD_TIME_0_STOPS_REPORT, "deadtime set to 0 stops the report timer") \
+    X(DEAD_TIME_0_CUTS_REPORT, "deadtime set to 0 cuts the running report timer to report's own time") \
+    X(DEAD_TIME_0_DROPS_WAITING, "deadtime set to 0 drops the waiting triggers") \
     X(REPORT_0_RUNS_ON, "report set to 0 does not stop the timer") \
     X(REPORT_0_STAYS_DUE, "report set to 0 leaves a due report due") \
     X(STOPPED_NOT_STARTED, "report set above 0 does not start a stopped timer") \

@@ -1,5 +1,5 @@
-/* The second implementation of the bench model, for comparison with the library: naive, tick by tick, from document 01's words.
- * The state is a plain struct, so that a reading can go on from where an earlier one left it. */
+/* The second implementation of the bench model, for comparison with the library: naive, tick by tick, from the words of documents
+ * 01 and 02. The state is a plain struct, so that a reading can go on from where an earlier one left it. */
 #ifndef SECOND_H
 #define SECOND_H
 

@@ -1,8 +1,8 @@
--- Document 01, "Frames": what its sentences on commands and queries say of the definitions.
+-- Document 01, "Frames", with M-103: what its sentences on commands and queries say of the definitions.
 -- Assumes nothing.
 use Prim.Native.Nat.{ℕ, _<_, _≤_}
 use Rattle.command.specs.Answering.{ButLatch, acted, actedBy, answered, latched, queried}
-use Rattle.command.specs.Setting.{blockChanged, boundedHysteresis, boundedPriority, changed, filtered, obeyed, retimed, retimedReport}
+use Rattle.command.specs.Setting.{blockChanged, boundedHysteresis, boundedPriority, changed, filtered, obeyed, retimed, retimedDead, retimedReport}
 use Rattle.command.specs.declared.answering.Answer.the-variants.{None}
 use Rattle.opcode.specs.Meaning.{isSetting, meant}
 use Rattle.opcode.specs.declared.Command.the-variants.{Disable, Enable, SetDeadtime, SetFilter, SetHysteresis, SetHysteresisMin, SetPriority, SetReport}
@@ -12,9 +12,10 @@ use Rattle.opcode.specs.declared.Meaning.{Meaning}
 use Rattle.opcode.specs.declared.Query.the-variants.{QueryNext, QueryValue, QueryVariable}
 use Rattle.opcode.specs.declared.Query.{Query}
 use Rattle.sensor.specs.Fresh.{fresh}
+use Rattle.sensor.specs.Instance.{withSettings, withTimers}
 use Rattle.sensor.specs.Kind.{allowing, kept, repeat, rules, units}
 use Rattle.sensor.specs.Occupancy.{occupancyAllowing}
-use Rattle.sensor.specs.Settings.{withReport}
+use Rattle.sensor.specs.Settings.{withDeadtime, withReport}
 use Rattle.sensor.specs.declared.instance.Instance.{Instance}
 use Rattle.sensor.specs.declared.kind.Kind.the-variants.{Light, Occupancy}
 use Rattle.sensor.specs.declared.kind.Kind.{Kind}
@@ -136,9 +137,17 @@ hysteresis-within s d h = rw (le-ltb 25 d h)
 
 -- ---- timers
 -- a new time serves from the next start of its timer
-pub deadtime-waits : (x : Instance) (d : ℕ) → obeyed x SetDeadtime d .timers ≡ x .timers
-unfolding obeyed retimed blockChanged
-deadtime-waits x d = refl
+pub dead-runs-on : (dead : ℕ) (r : Rules) → 0 < r .deadtime → retimedDead dead r ≡ dead
+unfolding retimedDead
+dead-runs-on dead r h = rw (ne-eqb (r .deadtime) 0 (ne-of-gt h))
+
+-- the instance with deadtime d, n ticks of dead time left, and all else as it was
+abbrev pub retimedTo : Instance → (d n : ℕ) → Instance
+retimedTo x d n = withTimers (record { dead = n; report = x .timers .report }) (withSettings (withDeadtime d (x .settings)) x)
+
+pub deadtime-waits : (x : Instance) (d : ℕ) → 0 < d → obeyed x SetDeadtime d ≡ retimedTo x d (x .timers .dead)
+unfolding changed filtered obeyed retimed rules blockChanged
+deadtime-waits x d h = ap (λ n. retimedTo x d n) (dead-runs-on (x .timers .dead) (rules (x .kind) (withDeadtime d (x .settings))) h)
 
 -- what the decision goes by once report is set to d
 abbrev pub reportSet : Instance → (d : ℕ) → Rules
@@ -152,7 +161,7 @@ pub report-waits : (x : Instance) (d n : ℕ) → 0 < d → x .timers .report �
 unfolding changed obeyed retimed rules blockChanged
 report-waits x d n h e = ap (λ t. record { dead = x .timers .dead; report = t }) (running-kept (x .timers .report) n (reportSet x d) e h)
 
--- two exceptions: report set to 0 stops the report timer at once, so that it is no longer due
+-- three exceptions: report set to 0 stops the report timer at once, so that it is no longer due
 pub zero-stops : (t : Report) (r : Rules) → r .report ≡ 0 → retimedReport t r ≡ Stopped
 unfolding retimedReport
 zero-stops Stopped r e = rw (eq-eqb (r .report) 0 e)
@@ -170,6 +179,16 @@ no-longer-due x = rw (report-stops x)
 pub report-starts : (x : Instance) (d : ℕ) → 0 < d → x .timers .report ≡ Stopped → obeyed x SetReport d .timers .report ≡ Left (reportTime (reportSet x d))
 unfolding changed obeyed retimed retimedReport rules startedReport blockChanged
 report-starts x d h e = rw (e, ne-eqb d 0 (ne-of-gt h))
+
+-- M-103: deadtime set to 0 ends a running dead time at once
+pub zero-ends : (dead : ℕ) (r : Rules) → r .deadtime ≡ 0 → retimedDead dead r ≡ 0
+unfolding retimedDead
+zero-ends dead r e = rw (eq-eqb (r .deadtime) 0 e)
+
+-- the report timer is as it ran, and what waits goes on waiting
+pub dead-time-ends : (x : Instance) → obeyed x SetDeadtime 0 ≡ retimedTo x 0 0
+unfolding changed filtered obeyed retimed rules blockChanged
+dead-time-ends x = ap (λ n. retimedTo x 0 n) (zero-ends (x .timers .dead) (rules (x .kind) (withDeadtime 0 (x .settings))) refl)
 
 -- report time is never below dead time when started
 pub report-covers : (r : Rules) → deadTime r ≤ reportTime r

@@ -1,4 +1,5 @@
 mod Block
 mod Rest
 pub mod Laws
+pub mod Freed
 pub mod Unique

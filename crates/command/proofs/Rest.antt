@@ -17,18 +17,18 @@ use types.Run.{OneOf, miss}
 abbrev tags : List Command → List ℕ
 tags cs = map (tagOf C.the-type) cs
 
--- every command but SetReport keeps the timers
-abbrev not-report : List ℕ
-not-report = tags (SetPriority ∷ Enable ∷ Disable ∷ SetFilter ∷ SetDeadtime ∷ SetHysteresis ∷ SetHysteresisMin ∷ [])
+-- every command but SetReport and SetDeadtime keeps the timers
+abbrev no-time : List ℕ
+no-time = tags (SetPriority ∷ Enable ∷ Disable ∷ SetFilter ∷ SetHysteresis ∷ SetHysteresisMin ∷ [])
 
-pub same-timers : (t : Timers) (x : Command) (r : Rules) → OneOf not-report (tagOf C.the-type x) → t ≡ retimed t x r
+pub same-timers : (t : Timers) (x : Command) (r : Rules) → OneOf no-time (tagOf C.the-type x) → t ≡ retimed t x r
 unfolding retimed
 same-timers t SetPriority r h = refl
 same-timers t Enable r h = refl
 same-timers t Disable r h = refl
 same-timers t SetFilter r h = refl
-same-timers t SetReport r h = absurd (miss not-report (tagOf C.the-type SetReport) tt h)
-same-timers t SetDeadtime r h = refl
+same-timers t SetReport r h = absurd (miss no-time (tagOf C.the-type SetReport) tt h)
+same-timers t SetDeadtime r h = absurd (miss no-time (tagOf C.the-type SetDeadtime) tt h)
 same-timers t SetHysteresis r h = refl
 same-timers t SetHysteresisMin r h = refl
 

@@ -1,4 +1,4 @@
--- Document 01, "Frames": what a setting command makes of the settings, of the report timer and of the waiting triggers.
+-- Document 01, "Frames", with M-103: what a setting command makes of the settings, of the timers and of the waiting triggers.
 -- Assumes nothing.
 use Prim.Native.Nat.{ℕ}
 use Rattle.opcode.specs.declared.Command.the-variants.{Disable, Enable, SetDeadtime, SetFilter, SetHysteresis, SetHysteresisMin, SetPriority, SetReport}
@@ -38,19 +38,23 @@ changed s SetDeadtime d kept = withDeadtime d s
 changed s SetHysteresis d kept = boundedHysteresis s d
 changed s SetHysteresisMin d kept = withMinimum d s
 
--- ---- the timers after a command: a new time serves from the next start of its timer, with two exceptions
+-- ---- the timers after a command: a new time serves from the next start of its timer, with three exceptions
 -- report set to 0 stops the report timer at once; report set above 0 while stopped starts it at once
 unfoldable pub retimedReport : Report → Rules → Report
 retimedReport Stopped r = cond (eqb (r .report) 0) Stopped (startedReport r)
 retimedReport (Left n) r = cond (eqb (r .report) 0) Stopped (Left n)
 
+-- M-103, after IEC 62386-305, 9.5.3: deadtime set to 0 ends a running dead time at once, and leaves the report timer as it ran
+unfoldable pub retimedDead : (dead : ℕ) → Rules → ℕ
+retimedDead dead r = cond (eqb (r .deadtime) 0) 0 dead
+
 unfoldable pub retimed : Timers → Command → Rules → Timers
 retimed t SetReport r = record { dead = t .dead; report = retimedReport (t .report) r }
+retimed t SetDeadtime r = record { dead = retimedDead (t .dead) r; report = t .report }
 retimed t SetPriority r = t
 retimed t Enable r = t
 retimed t Disable r = t
 retimed t SetFilter r = t
-retimed t SetDeadtime r = t
 retimed t SetHysteresis r = t
 retimed t SetHysteresisMin r = t
 

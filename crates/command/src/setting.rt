@@ -1,4 +1,4 @@
-// The setting commands, by value: what each makes of the settings, of the report timer and of the triggers that wait.
+// The setting commands, by value: what each makes of the settings, of the timers and of the triggers that wait.
 use crate::lent::apply;
 use opcode::Command;
 use sensor::Instance;
@@ -7,7 +7,7 @@ use sensor::Settings;
 use timers::Report;
 use timers::Rules;
 use timers::Timers;
-ghost use Rattle.command.specs.Setting.{blockChanged, boundedHysteresis, boundedPriority, changed, filtered, obeyed, retimed, retimedReport};
+ghost use Rattle.command.specs.Setting.{blockChanged, boundedHysteresis, boundedPriority, changed, filtered, obeyed, retimed, retimedDead, retimedReport};
 ghost use Rattle.sensor.specs.Settings.{withDeadtime, withEnabled, withFilter, withMinimum, withReport};
 ghost use mathlib.Core.Path.{_≡_};
 
@@ -27,7 +27,7 @@ pub fn changed(settings: Settings, command: Command, dtr0: u8, kept: u8) -> Sett
     }
 }
 
-// What a command makes of the instance: its settings, its report timer, its waiting triggers.
+// What a command makes of the instance: its settings, its timers, its waiting triggers.
 pub fn obeyed(x: Instance, command: Command, dtr0: u8) -> Instance
     ensures { λ r. ⌜ r ≡ obeyed x command dtr0 ⌝ }
 {
@@ -66,7 +66,7 @@ fn filtered(kind: Kind, command: Command, filter: u8) -> Kind
     }
 }
 
-// A new time serves from the next start of its timer, but for the report timer's two exceptions. rules: with the new settings.
+// A new time serves from the next start of its timer, with three exceptions. rules: with the new settings.
 fn retimed(timers: Timers, command: Command, rules: Rules) -> Timers
     ensures { λ r. ⌜ r ≡ retimed timers command rules ⌝ }
 {
@@ -78,6 +78,10 @@ fn retimed(timers: Timers, command: Command, rules: Rules) -> Timers
                 report: retimed_report(report, rules),
             }
         }
+        Command::SetDeadtime => Timers {
+            dead: retimed_dead(timers.dead, rules),
+            ..timers
+        },
         _ => timers,
     }
 }
@@ -93,6 +97,13 @@ fn retimed_report(report: Report, rules: Rules) -> Report
         Report::Stopped => Report::started(rules),
         Report::Left(n) => Report::Left(n),
     }
+}
+
+// Deadtime set to 0 ends dead time at once (M-103).
+fn retimed_dead(dead: u16, rules: Rules) -> u16
+    ensures { λ r. ⌜ r ≡ retimedDead dead rules ⌝ }
+{
+    if rules.deadtime == 0 { 0 } else { dead }
 }
 
 // 2 to 5, else no change.

@@ -1,4 +1,5 @@
 pub mod Laws
+pub mod Open
 pub mod Table
 pub mod Marked
 mod Examples
