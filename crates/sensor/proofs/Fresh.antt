@@ -1,4 +1,4 @@
--- An instance as it is declared: enabled, its dead time over, its report timer started.
+-- An instance as it is declared: enabled, its dead time over, its report timer started, nothing measured.
 -- Assumes nothing.
 use Prim.Native.Nat.{ℕ}
 use Rattle.sensor.specs.Fresh as sensors
@@ -13,11 +13,12 @@ pub record Fresh (x : Instance) : Type 0 where
   pub on : x .settings .enabled ≡ true
   pub dead : x .timers .dead ≡ 0
   pub report : x .timers .report ≡ startedReport (rules (x .kind) (x .settings))
+  pub measured : x .measured ≡ false
 
 pub fresh : (type resolution : ℕ) → Fresh (sensors.declared type resolution)
 unfolding sensors.declared sensors.occupancyFresh sensors.lightFresh sensors.fresh
 fresh type resolution = go (eqb type 3)
   where
     go : (b : Bool) → Fresh (cond b sensors.occupancyFresh (sensors.lightFresh resolution))
-    go true = record { on = refl; dead = refl; report = refl }
-    go false = record { on = refl; dead = refl; report = refl }
+    go true = record { on = refl; dead = refl; report = refl; measured = refl }
+    go false = record { on = refl; dead = refl; report = refl; measured = refl }

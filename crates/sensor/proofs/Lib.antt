@@ -5,5 +5,6 @@ pub mod Marked
 mod Examples
 pub mod Quiet
 pub mod Fresh
+pub mod Measured
 pub mod Reporting
 pub mod Unique

@@ -1,6 +1,6 @@
 -- Document 01, "One tick", of one instance.
 -- Assumes nothing.
-use Rattle.sensor.specs.Instance.{withFailed, withHeld, withKind, withTimers}
+use Rattle.sensor.specs.Instance.{withFailed, withHeld, withKind, withMeasured, withTimers}
 use Rattle.sensor.specs.Kind.{cause, information, rules, sent, taken}
 use Rattle.sensor.specs.declared.instance.Instance.{Instance}
 use Rattle.sensor.specs.declared.instance.Sent.the-variants.{Event, Nothing}
@@ -16,11 +16,11 @@ use Rattle.timers.specs.declared.Decision.{Decision}
 use Rattle.timers.specs.declared.Rules.{Rules}
 use Rattle.timers.specs.declared.Timers.{Timers}
 use lib.Dec.{eqb}
-use mathlib.Core.Bool.{Bool, false, true}
+use mathlib.Core.Bool.{Bool, false, true, _||_}
 
--- SA only replaces the held sample
+-- SA only replaces the held sample; and that a valid one was taken is remembered (M-110)
 unfoldable pub holding : Instance → Sample → Instance
-holding x sample = withHeld sample x
+holding x sample = withHeld sample (withMeasured (x .measured || eqb (sample .status) 0) x)
 
 -- ---- the end of a tick, as it was decided
 unfoldable pub kindAfter : Decision → Kind → Settings → Kind

@@ -19,12 +19,13 @@ pub struct Latch {
     pub bytes: u32,
 }
 
-// held: the latest sample. failed: status 2 at the last tick.
+// held: the latest sample. measured: a valid sample was taken for it (M-110). failed: status 2 at the last tick.
 pub struct Instance {
     pub kind: Kind,
     pub settings: Settings,
     pub timers: Timers,
     pub held: Sample,
+    pub measured: bool,
     pub failed: bool,
     pub latch: Latch,
 }
@@ -40,7 +41,7 @@ pub struct Ticked {
 }
 
 impl Instance {
-    // As declared: dead time not running, report timer started, nothing latched.
+    // As declared: dead time not running, report timer started, nothing measured, nothing latched.
     pub fn fresh(kind: Kind, settings: Settings, held: Sample) -> Instance
         ensures { λ r. ⌜ r ≡ fresh kind settings held ⌝ }
     {
@@ -53,6 +54,7 @@ impl Instance {
             settings,
             timers,
             held,
+            measured: false,
             failed: false,
             latch,
         }
@@ -69,12 +71,13 @@ impl Instance {
         }
     }
 
-    // SA only replaces the held sample.
+    // SA only replaces the held sample; a valid one is remembered to have come.
     pub fn holding(self, sample: Sample) -> Instance
         ensures { λ r. ⌜ r ≡ holding self sample ⌝ }
     {
         Instance {
             held: sample,
+            measured: self.measured | (sample.status == 0),
             ..self
         }
     }
