@@ -12,7 +12,7 @@ FR() { printf FR && bytes "0x$1" "0x$2" "0x$3"; }                               
 TK() { printf TK && bytes $(($1 / 256)) $(($1 % 256)); }                                  # tick count
 
 occupancy=3 light=4
-valid=0 failed=2
+valid=0 unready=1 failed=2
 vacant=0 still=2 moving=3  # an occupancy value: bit 0 movement, bit 1 occupied
 seconds() { echo $(($1 * 20)); }
 
@@ -107,6 +107,19 @@ refused_8() {
     TK 1
 }
 
-for session in full hour refused_1 refused_2 refused_3 refused_4 refused_5 refused_6 refused_7 refused_8; do
+# not ready before the first valid sample, and again after it, with a failure between
+refused_13() {
+    IN 0 $light 8
+    SA 0 $unready 0
+    TK 1
+    FR 01 00 8C  # its value is all ones
+    SA 0 $valid 100
+    TK 1
+    SA 0 $failed 0
+    TK 1
+    SA 0 $unready 0
+}
+
+for session in full hour refused_1 refused_2 refused_3 refused_4 refused_5 refused_6 refused_7 refused_8 refused_13; do
     $session >"$session.session"
 done

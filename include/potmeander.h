@@ -25,7 +25,8 @@ enum {
     POTMEANDER_BAD_SAMPLE = 6,      /* SA: a status or a value that the type does not allow */
     POTMEANDER_NO_TICKS = 7,        /* TK with count 0 */
     POTMEANDER_TIME_OVER = 8,       /* TK: the tick number would pass 4,294,967,295 */
-    POTMEANDER_FULL = 9             /* the records of one tick, or one answer, do not fit in what is left of the log */
+    POTMEANDER_FULL = 9,            /* the records of one tick, or one answer, do not fit in what is left of the log */
+    POTMEANDER_NOT_READY_AGAIN = 13 /* SA: status 1, not ready, for an instance that has had a valid sample (status 0, taken) */
 };
 
 /* What a reading came to. */
@@ -45,7 +46,7 @@ typedef struct {
  *
  * A session is a row of records, each with a mark of two ASCII letters; numbers are most significant byte first:
  *   IN instance type resolution             declares an instance: type 3 occupancy, type 4 light
- *   SA instance status value(3)             what the sensor measures from now on
+ *   SA instance status value(3)             what the sensor measures from now on; status 0 valid, 1 not ready, 2 failure
  *   FR byte1 byte2 byte3                    a frame on the bus
  *   TK count(2)                             so many ticks of 50 ms pass
  * The log is a row of records:

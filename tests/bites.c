@@ -19,18 +19,9 @@ static const char *const FAULT_NAMES[] = {
 
 static int fault; /* the wrong model that is sought */
 
-static second_model starting(const test_case *c)
-{
-    second_model model;
-    second_fresh(&model);
-    model.tick = c->start_tick;
-    return model;
-}
-
 static second_reading read_whole(const test_case *c, uint8_t *log, size_t log_len)
 {
-    second_model model = starting(c);
-    return second_read(&model, c->session, c->session_len, log, log_len);
+    return second_case(c, second_read, log, log_len);
 }
 
 static second_reading read_wrong(const test_case *c, uint8_t *log, size_t log_len)
@@ -44,9 +35,8 @@ static second_reading read_wrong(const test_case *c, uint8_t *log, size_t log_le
 /* What a wrong model leaves behind in its state shows when the reading goes on from it. */
 static second_reading read_wrong_in_pieces(const test_case *c, uint8_t *log, size_t log_len)
 {
-    second_model model = starting(c);
     second_fault = fault;
-    second_reading r = second_in_pieces(&model, c->session, c->session_len, log, log_len);
+    second_reading r = second_case(c, second_in_pieces, log, log_len);
     second_fault = NO_FAULT;
     return r;
 }

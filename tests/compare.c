@@ -9,23 +9,27 @@
 #include <stdio.h>
 #include <stdlib.h>
 
-/* The library's call begins with tick 0. For the last tick numbers crate trial exports the same reading from a later one. */
-potmeander_reading trial_session(uint32_t tick, const uint8_t *session, size_t session_len, uint8_t *log, size_t log_len);
+/* The library's call begins with a fresh model at tick 0. Crate trial exports the same reading from a later tick, and from the
+ * model that the reading of a first part left; either part may be empty. */
+potmeander_reading trial_session(uint32_t tick, const uint8_t *before, size_t before_len, const uint8_t *session,
+                                 size_t session_len, uint8_t *log, size_t log_len);
+
+static potmeander_reading read_library(const test_case *c, uint8_t *log, size_t log_len)
+{
+    if (c->start_tick == 0 && c->before_len == 0) return potmeander_session(c->session, c->session_len, log, log_len);
+    return trial_session(c->start_tick, c->session, c->before_len, c->session + c->before_len, c->session_len - c->before_len,
+                         log, log_len);
+}
 
 static second_reading read_first(const test_case *c, uint8_t *log, size_t log_len)
 {
-    potmeander_reading r = c->start_tick == 0 ? potmeander_session(c->session, c->session_len, log, log_len)
-                                              : trial_session(c->start_tick, c->session, c->session_len, log, log_len);
+    potmeander_reading r = read_library(c, log, log_len);
     return (second_reading){r.number, r.offset, r.written, r.ticks};
 }
 
 static second_reading read_second(const test_case *c, uint8_t *log, size_t log_len)
 {
-    if (c->start_tick == 0) return second_session(c->session, c->session_len, log, log_len);
-    second_model model;
-    second_fresh(&model);
-    model.tick = c->start_tick;
-    return second_read(&model, c->session, c->session_len, log, log_len);
+    return second_case(c, second_read, log, log_len);
 }
 
 static const implementation FIRST = {"the library", read_first}, SECOND = {"the second implementation", read_second};

@@ -32,7 +32,7 @@ one_call() {
 # same NAME: the program wrote and said that, in $room/own.log and $room/own.said; the words of a refusal are left out.
 same() {
     cmp "$room/log" "$room/own.log" || fail "$1: another log"
-    sed 's/\(refused at byte [0-9]*: [1-9]\), .*/\1/' "$room/own.said" | cmp "$room/said" - || fail "$1: said $(cat "$room/own.said")"
+    sed 's/\(refused at byte [0-9]*: [0-9]*\), .*/\1/' "$room/own.said" | cmp "$room/said" - || fail "$1: said $(cat "$room/own.said")"
 }
 
 # check NAME: $room/session read from a file

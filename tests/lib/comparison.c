@@ -7,37 +7,57 @@
 enum { MARGIN = 64, HELD = MARGIN + GENERATOR_LOG_MAX + MARGIN };
 enum { EV_SIZE = 10, AN_SIZE = 8, RECORDS_AROUND = 3, SESSION_RECORDS_SHOWN = 400 };
 
-static uint8_t pattern[HELD], left_held[HELD], right_held[HELD];
+/* beforehand: what the output held before the reading that is compared */
+static uint8_t beforehand[HELD], left_held[HELD], right_held[HELD];
 static second_reading left_reading, right_reading;
 
-/* ---- Comparing ---- */
+/* ---- Reading ---- */
 
-/* What the output holds beforehand: no two places near each other hold the same, and none begins a record. */
-static void make_pattern(void)
+second_reading second_case(const test_case *c, second_reader read, uint8_t *log, size_t log_len)
 {
-    for (size_t i = 0; i < HELD; i++) pattern[i] = (uint8_t)(0x80 | i * 7);
+    second_model model;
+    second_fresh(&model);
+    model.tick = c->start_tick;
+    read(&model, c->session, c->before_len, log, log_len);
+    return read(&model, c->session + c->before_len, c->session_len - c->before_len, log, log_len);
 }
+
+/* A pattern in which no two places near each other hold the same, and none begins a record; over it what the reading writes. */
+static second_reading read_into(uint8_t *held, const test_case *c, implementation which)
+{
+    for (size_t i = 0; i < HELD; i++) held[i] = (uint8_t)(0x80 | i * 7);
+    return which.read(c, held + MARGIN, c->log_len);
+}
+
+/* The case's first part alone. */
+static test_case first_part(test_case c)
+{
+    c.session_len = c.before_len;
+    c.before_len = 0;
+    return c;
+}
+
+/* ---- Comparing ---- */
 
 static bool same_reading(second_reading a, second_reading b)
 {
     return a.number == b.number && a.offset == b.offset && a.written == b.written && a.ticks == b.ticks;
 }
 
-/* Bytes past the log, and about the output, keep what they held: the unwritten part is compared with the pattern itself. */
+/* Bytes past the log, and about the output, keep what they held: the unwritten part is compared with that itself. */
 static bool rest_kept(const uint8_t *held, uint64_t written)
 {
     if (written > GENERATOR_LOG_MAX) return false;
     size_t rest = MARGIN + (size_t)written;
-    return memcmp(held, pattern, MARGIN) == 0 && memcmp(held + rest, pattern + rest, HELD - rest) == 0;
+    return memcmp(held, beforehand, MARGIN) == 0 && memcmp(held + rest, beforehand + rest, HELD - rest) == 0;
 }
 
 bool agree(const test_case *c, implementation left, implementation right)
 {
-    if (pattern[0] == 0) make_pattern();
-    memcpy(left_held, pattern, HELD);
-    memcpy(right_held, pattern, HELD);
-    left_reading = left.read(c, left_held + MARGIN, c->log_len);
-    right_reading = right.read(c, right_held + MARGIN, c->log_len);
+    const test_case first = first_part(*c);
+    read_into(beforehand, &first, right);
+    left_reading = read_into(left_held, c, left);
+    right_reading = read_into(right_held, c, right);
     return same_reading(left_reading, right_reading) && memcmp(left_held, right_held, HELD) == 0 &&
            rest_kept(left_held, left_reading.written) && rest_kept(right_held, right_reading.written);
 }
@@ -101,18 +121,26 @@ static size_t print_session_record(const uint8_t *r, size_t left)
     return left;
 }
 
-/* The session, up to its first record that cannot be read. */
-static void print_session(const test_case *c)
+/* A session, up to its first record that cannot be read. */
+static void print_session(const uint8_t *session, size_t session_len)
 {
-    printf("session of %lu bytes from tick %lu, output of %lu:\n", (unsigned long)c->session_len, (unsigned long)c->start_tick,
-           (unsigned long)c->log_len);
     size_t at = 0;
-    for (unsigned shown = 0; at < c->session_len && shown < SESSION_RECORDS_SHOWN; shown++) {
+    for (unsigned shown = 0; at < session_len && shown < SESSION_RECORDS_SHOWN; shown++) {
         printf("  %5lu: ", (unsigned long)at);
-        at += print_session_record(c->session + at, c->session_len - at);
+        at += print_session_record(session + at, session_len - at);
         printf("\n");
     }
-    if (at < c->session_len) printf("  and %lu bytes more\n", (unsigned long)(c->session_len - at));
+    if (at < session_len) printf("  and %lu bytes more\n", (unsigned long)(session_len - at));
+}
+
+static void print_case(const test_case *c)
+{
+    size_t session_len = c->session_len - c->before_len;
+    printf("from tick %lu, output of %lu\n", (unsigned long)c->start_tick, (unsigned long)c->log_len);
+    if (c->before_len > 0) printf("first part of %lu bytes:\n", (unsigned long)c->before_len);
+    print_session(c->session, c->before_len);
+    printf("session of %lu bytes:\n", (unsigned long)session_len);
+    print_session(c->session + c->before_len, session_len);
 }
 
 static void print_reading(const char *name, second_reading r)
@@ -138,5 +166,5 @@ void print_difference(const test_case *c, implementation left, implementation ri
     print_log_around(right.name, b, b_written, record);
     print_rest(left.name, left_held, left_reading.written);
     print_rest(right.name, right_held, right_reading.written);
-    print_session(c);
+    print_case(c);
 }

@@ -12,6 +12,7 @@ typedef struct {
     uint8_t type, resolution;
     uint8_t hysteresis, hysteresis_min, deadtime, report;
     uint32_t base; /* a value that the band may begin from */
+    bool had_valid; /* light: status 1 is refused from now on */
 } sketch;
 
 typedef struct {
@@ -56,6 +57,11 @@ static uint32_t one_of(generator *g, const uint32_t *list, size_t count)
 
 /* ---- Records ---- */
 
+static uint32_t light_most(const sketch *s)
+{
+    return (1u << s->resolution) - 2;
+}
+
 static void put(generator *g, const uint8_t *bytes, size_t count)
 {
     if (g->len + count > SESSION_MAX) return;
@@ -72,6 +78,7 @@ static void put_in(generator *g, unsigned number, unsigned type, unsigned resolu
 
 static void put_sa(generator *g, unsigned number, unsigned status, uint32_t value)
 {
+    if (number < g->declared && status == 0 && value <= light_most(&g->instance[number])) g->instance[number].had_valid = true;
     PUT(g, 'S', 'A', (uint8_t)number, (uint8_t)status, (uint8_t)(value >> 16), (uint8_t)(value >> 8), (uint8_t)value);
 }
 
@@ -130,11 +137,6 @@ static unsigned any_instance(generator *g)
 
 /* ---- Samples ---- */
 
-static uint32_t light_most(const sketch *s)
-{
-    return (1u << s->resolution) - 2;
-}
-
 /* A value at an end of the range, or about an edge of a band that begins at the base. */
 static uint32_t light_value(generator *g, sketch *s)
 {
@@ -155,12 +157,18 @@ static uint32_t light_value(generator *g, sketch *s)
     return (uint32_t)value;
 }
 
-static void sample(generator *g, unsigned number)
+static void put_valid(generator *g, unsigned number)
 {
     sketch *s = &g->instance[number];
-    bool light = s->type == LIGHT;
-    if (chance(g, 8)) put_sa(g, number, light && chance(g, 50) ? 1 : 2, 0);
-    else put_sa(g, number, 0, light ? light_value(g, s) : below(g, 4));
+    put_sa(g, number, 0, s->type == LIGHT ? light_value(g, s) : below(g, 4));
+}
+
+static void sample(generator *g, unsigned number)
+{
+    const sketch *s = &g->instance[number];
+    if (chance(g, 8)) put_sa(g, number, 2, 0);
+    else if (s->type == LIGHT && !s->had_valid && chance(g, 15)) put_sa(g, number, 1, 0);
+    else put_valid(g, number);
 }
 
 /* ---- Settings and queries ---- */
@@ -231,6 +239,14 @@ static void query_value(generator *g, unsigned number)
 {
     put_command(g, number, 0x8C);
     for (unsigned i = below(g, 5); i > 0; i--) put_command(g, number, 0x8D);
+}
+
+/* The error, and the value. */
+static void query_sample(generator *g, unsigned number)
+{
+    put_command(g, number, 0x82);
+    put_command(g, number, 0x83);
+    query_value(g, number);
 }
 
 /* ---- Steps: what a session is made of ---- */
@@ -389,10 +405,23 @@ static void mix(generator *g, unsigned count, const step *steps, size_t choices)
 
 #define MIX(g, count, ...) mix((g), (count), (const step[]){__VA_ARGS__}, sizeof((const step[]){__VA_ARGS__}) / sizeof(step))
 
+/* Some of the light instances not ready yet, sometimes after a failure, and what shows of it. */
+static void begin_unready(generator *g)
+{
+    for (unsigned i = 0; i < g->declared; i++) {
+        if (g->instance[i].type != LIGHT || chance(g, 70)) continue;
+        if (chance(g, 30)) put_sa(g, i, 2, 0), put_tk(g, 1);
+        put_sa(g, i, 1, 0);
+        put_tk(g, 1 + below(g, 3));
+        query_sample(g, i);
+    }
+}
+
 static void mixed_traffic(generator *g)
 {
     declare_any(g, chance(g, 80) ? 1 + below(g, 4) : 1 + below(g, 16));
     for (unsigned i = 0; i < g->declared; i++) if (chance(g, 50)) set_something(g, i);
+    begin_unready(g);
     MIX(g, 30 + below(g, 40), step_sample, step_move, step_move, step_set, step_set, step_switch, step_query, step_query,
         step_latches, step_ticks, step_ticks, step_hold, step_noise);
 }
@@ -401,6 +430,7 @@ static void band_edges(generator *g)
 {
     unsigned count = 1 + below(g, 2);
     for (unsigned i = 0; i < count; i++) declare(g, LIGHT, 1 + below(g, 24));
+    begin_unready(g);
     for (unsigned i = 0; i < count; i++) {
         set_times(g, i, (uint8_t)ONE_OF(g, 0, 0, 1), (uint8_t)ONE_OF(g, 0, 1, 30));
         if (chance(g, 60)) set_to(g, i, 0x33, (uint8_t)ONE_OF(g, 0, 0, 1, 2, 10, 255));
@@ -426,6 +456,7 @@ static void occupancy_filters(generator *g)
 static void timer_ends(generator *g)
 {
     declare_any(g, 1 + below(g, 2));
+    begin_unready(g);
     for (unsigned i = 0; i < g->declared; i++) {
         uint8_t deadtime = telling_dtr0(g, 0x23), report = telling_dtr0(g, 0x22);
         if (g->instance[i].type == OCCUPANCY) set_to(g, i, 0x68, (uint8_t)(chance(g, 70) ? 4 + below(g, 4) : 0x1F));
@@ -679,6 +710,110 @@ static void deadtimes_set(generator *g)
     }
 }
 
+/* ---- Profile l: not ready, before and after a valid sample ---- */
+
+/* Three to five instances: one or two of occupancy, two or more of light. */
+static void declare_thirds(generator *g)
+{
+    unsigned count = 3 + below(g, 3), occupancy = below(g, 3);
+    for (unsigned i = 0; i < count; i++) {
+        if (i % 3 == occupancy) declare(g, OCCUPANCY, 2);
+        else declare(g, LIGHT, 1 + below(g, 24));
+    }
+}
+
+static unsigned any_of_type(generator *g, unsigned type)
+{
+    unsigned number = any_instance(g);
+    while (g->instance[number].type != type) number = (number + 1) % g->declared;
+    return number;
+}
+
+/* Ticks or none, and what they made of the sample, or nothing. */
+static void look(generator *g, unsigned number)
+{
+    if (chance(g, 50)) put_tk(g, ONE_OF(g, 1, 1, 2, 31));
+    if (chance(g, 60)) query_sample(g, number);
+}
+
+/* What neither makes an instance ready nor lets it be not ready again: a failure, a command, a valid sample of another one. */
+static void pass_by(generator *g, unsigned number)
+{
+    unsigned other = (number + 1 + below(g, g->declared - 1)) % g->declared;
+    switch (below(g, 7)) {
+    case 0: case 1: put_sa(g, number, 2, 0); break;
+    case 2: put_command(g, number, 0x63); break;
+    case 3: put_command(g, number, 0x62); break;
+    case 4: set_something(g, number); break;
+    default: put_valid(g, other); break;
+    }
+    look(g, number);
+}
+
+static void stay_unready(generator *g, unsigned number)
+{
+    for (unsigned i = below(g, 4); i > 0; i--) {
+        if (chance(g, 40)) pass_by(g, number);
+        put_sa(g, number, 1, 0);
+        look(g, number);
+    }
+}
+
+/* A valid sample, now and then of value 0 or while disabled. */
+static void become_ready(generator *g, unsigned number)
+{
+    bool disabled = chance(g, 25);
+    if (disabled) put_command(g, number, 0x63);
+    if (chance(g, 25)) put_sa(g, number, 0, 0);
+    else put_valid(g, number);
+    if (disabled) put_command(g, number, 0x62);
+    look(g, number);
+}
+
+/* From the start, or from what a refused sample left, up to the next sample that is to be refused. */
+static void unready_part(generator *g, unsigned number)
+{
+    look(g, number);
+    if (!g->instance[number].had_valid) stay_unready(g, number);
+    if (chance(g, g->instance[number].had_valid ? 25 : 60)) become_ready(g, number);
+    for (unsigned i = below(g, 4); i > 0; i--) pass_by(g, number);
+}
+
+/* Status 1 after a valid sample, or else a valid sample with a value that is not allowed: what does its refusal leave? */
+static void end_first_part(generator *g, unsigned number)
+{
+    const sketch *s = &g->instance[number];
+    if (s->had_valid) put_sa(g, number, 1, 0);
+    else put_sa(g, number, 0, ONE_OF(g, light_most(s) + 1, 0xFFFFFF));
+}
+
+/* Status 1 that is refused for another reason, or because there was a valid sample. */
+static void end_last_part(generator *g, unsigned number)
+{
+    switch (below(g, g->instance[number].had_valid ? 8 : 3)) {
+    case 0: put_sa(g, g->declared, 1, 0); break;
+    case 1: put_sa(g, any_of_type(g, OCCUPANCY), 1, 0); break;
+    case 2: put_sa(g, number, 1, ONE_OF(g, 1, 0x100, 0x10000, 0xFFFFFF)); break;
+    default: put_sa(g, number, 1, 0); break;
+    }
+}
+
+static void unready(generator *g, test_case *c)
+{
+    declare_thirds(g);
+    unsigned number = any_of_type(g, LIGHT);
+    set_times(g, number, (uint8_t)ONE_OF(g, 0, 0, 1, 30), (uint8_t)ONE_OF(g, 0, 1, 30));
+    if (chance(g, 50)) put_valid(g, any_of_type(g, OCCUPANCY));
+    if (chance(g, 60)) {
+        unready_part(g, number);
+        end_first_part(g, number);
+        c->before_len = g->len;
+        if (chance(g, 25)) number = any_of_type(g, LIGHT);
+    }
+    unready_part(g, number);
+    end_last_part(g, number);
+}
+
 /* ---- The choice by the seed ---- */
 
 /* The place of a seed among a hundred in a row, which have a hundred different ones. */
@@ -691,7 +826,8 @@ static unsigned place_of(uint64_t seed)
 static char profile_of(uint64_t seed)
 {
     static const struct { unsigned up_to; char profile; } shares[] = {
-        {17, 'a'}, {32, 'b'}, {47, 'c'}, {56, 'd'}, {60, 'k'}, {63, 'e'}, {75, 'f'}, {86, 'g'}, {90, 'h'}, {92, 'i'}, {100, 'j'},
+        {14, 'a'}, {20, 'l'}, {32, 'b'}, {47, 'c'}, {56, 'd'}, {60, 'k'}, {63, 'e'}, {75, 'f'}, {86, 'g'}, {90, 'h'}, {92, 'i'},
+        {100, 'j'},
     };
     unsigned i = 0;
     while (place_of(seed) >= shares[i].up_to) i++;
@@ -720,6 +856,7 @@ test_case generate(uint64_t seed, char profile)
     case 'h': last_ticks(&g, &c); break;
     case 'i': far_ticks(&g, &c); break;
     case 'k': deadtimes_set(&g); break;
+    case 'l': unready(&g, &c); break;
     default: third_bytes(&g, first_third_byte(seed)); break;
     }
     c.session = buffer;

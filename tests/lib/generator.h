@@ -17,17 +17,22 @@
  *   i  tick numbers of four bytes
  *   j  every third byte, to light and to occupancy; all of them within 200 seeds
  *   k  deadtime set while dead time runs, of light and of occupancy
+ *   l  light not ready, before and after a valid sample; and what a refused sample leaves, in a second part
  */
 typedef struct {
     uint64_t seed;
     char profile;
     const uint8_t *session; /* stands until the next case is generated */
     size_t session_len;
+    /* So many first bytes are read as a session of their own, whatever number it comes to, and the rest as a session from the
+     * model that was left. The rest's reading is compared; its log begins at the log's first byte, over the first one's.
+     * 0, and nothing is read before, but for profile l. */
+    size_t before_len;
     size_t log_len;
     uint32_t start_tick; /* the tick number that the model begins with; 0 but for profiles h and i */
 } test_case;
 
-enum { GENERATOR_LOG_MAX = 4096, GENERATOR_LAST_PROFILE = 'k' };
+enum { GENERATOR_LOG_MAX = 4096, GENERATOR_LAST_PROFILE = 'l' };
 
 /* The profile is one of a to GENERATOR_LAST_PROFILE, or 0: the seed chooses. */
 test_case generate(uint64_t seed, char profile);

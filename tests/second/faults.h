@@ -23,7 +23,7 @@
     X(OCCUPANCY_RESOLUTION_1, "occupancy with resolution 1 taken") \
     X(RESOLUTION_24_REFUSED, "light with resolution 24 refused") \
     X(MASK_MEASURED, "light value 2^resolution - 1 taken") \
-    X(OCCUPANCY_NOT_READY, "occupancy status 1 taken") \
+    X(OCCUPANCY_NOT_READY, "occupancy status 1 allowed as light's: taken before a valid sample, 13 after one") \
     X(FAILURE_WITH_VALUE, "value other than 0 taken with status 2") \
     X(COUNT_0_TAKEN, "TK count 0 taken") \
     X(LAST_TICK_REFUSED, "tick number 4,294,967,295 refused") \
@@ -39,6 +39,31 @@
     X(REFUSED_8D_USES_UP, "8D without room uses up a latched byte") \
     X(FIRST_TICK_ALONE, "only the first tick of a TK worked, the others only counted") \
     X(SAMPLE_AT_ONCE, "sample taken at once, not at the next tick") \
+    /* No going back to not ready (02, M-110) */ \
+    X(NOT_READY_TAKEN, "status 1 after a valid sample taken, as before M-110") \
+    X(NOT_READY_REFUSED, "status 1 before any valid sample refused with 13 too") \
+    X(NOT_READY_IS_SIX, "status 1 after a valid sample refused with 6") \
+    X(THIRTEEN_BEFORE_SIX, "light status 1 with a value other than 0, after a valid sample: 13 before 6") \
+    X(THIRTEEN_FOR_OCCUPANCY, "occupancy status 1 after a valid sample: 13 before 6") \
+    X(THIRTEEN_BEFORE_FIVE, "undeclared SA with status 1, after a valid sample of any instance: 13 before 5") \
+    X(FAILURE_FORGETS, "failure forgets that there was a valid sample") \
+    X(FAILURE_COUNTS, "failure counts as a valid sample") \
+    X(FAILURE_REFUSED, "status 2 after a valid sample refused with 13 too") \
+    X(NOT_READY_COUNTS, "status 1 counts as a valid sample") \
+    X(COUNTS_BY_TICK, "valid sample counts only once a tick has taken it") \
+    X(COUNTS_BY_STATUS, "status 1 refused with 13 only while the last tick's status is 0") \
+    X(COUNTS_BY_BAND, "status 1 refused with 13 only while there is a band") \
+    X(REFUSED_COUNTS, "valid sample refused with 6 counts") \
+    X(COUNTS_FOR_FIRST, "valid sample of any instance counts for instance 0, and for no other") \
+    X(COUNTS_FOR_ALL, "valid sample of any instance counts for all") \
+    X(ZERO_NOT_COUNTED, "valid sample of value 0 does not count") \
+    X(DISABLED_NOT_COUNTED, "valid sample while disabled does not count") \
+    X(DISABLING_FORGETS, "disabling forgets that there was a valid sample") \
+    X(ENABLING_FORGETS, "enabling forgets that there was a valid sample") \
+    X(CALL_FORGETS, "reading that goes on from an earlier one's state forgets that there was a valid sample") \
+    X(THIRTEEN_HELD, "sample refused with 13 held all the same") \
+    X(THIRTEEN_FORGETS, "sample refused with 13 forgets that there was a valid one") \
+    X(THIRTEEN_DISCARDS_BAND, "sample refused with 13 discards the band") \
     /* Widths */ \
     X(ZERO_PADDED, "inputValue padded with zeros") \
     X(NOT_WIDENED, "inputValue is the measured value, not widened") \
@@ -137,7 +162,6 @@
     X(BAND_NEVER_BY_REPORT, "band neither made nor moved by the report alone") \
     X(BAND_WRAPS, "low wraps round below 0") \
     X(BAND_KEPT_FAILED, "status 2 keeps the band") \
-    X(BAND_KEPT_NOT_READY, "status 1 keeps the band") \
     X(WIDTH_SMALLER, "width is the smaller of the two") \
     X(WIDTH_ROUNDED_UP, "width rounded up") \
     X(ONE_TRIGGER, "two changes at once give Occupied or Vacant alone") \

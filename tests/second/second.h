@@ -28,6 +28,7 @@ typedef struct {
     bool enabled;
 
     second_sample held; /* the latest SA; it is taken at the next tick */
+    bool had_valid;     /* an SA with status 0 was taken */
     uint8_t status;     /* taken at the last tick */
     uint32_t measured;  /* the value of the last tick with status 0 */
 

@@ -56,14 +56,12 @@ static bool marked_table_agrees(void)
 
 static second_reading read_whole(const test_case *c, uint8_t *log, size_t log_len)
 {
-    return second_session(c->session, c->session_len, log, log_len);
+    return second_case(c, second_read, log, log_len);
 }
 
 static second_reading read_pieces(const test_case *c, uint8_t *log, size_t log_len)
 {
-    second_model model;
-    second_fresh(&model);
-    return second_in_pieces(&model, c->session, c->session_len, log, log_len);
+    return second_case(c, second_in_pieces, log, log_len);
 }
 
 static bool pieces_agree(unsigned cases)

@@ -1,10 +1,11 @@
--- DEMAND 1: "Any bytes may be given as a session. The reading ends, and a refused record (numbers 1 to 9) changes nothing in the model and
--- no output byte. Refusal 9 alone comes per tick: earlier ticks of that record stand, the tick that found no room does nothing."
+-- DEMAND 1: "Any bytes may be given as a session. The reading ends, and a refused record changes nothing in the model and no output byte.
+-- Refusal 9 alone comes per tick: earlier ticks of that record stand, the tick that found no room does nothing."
 -- Assumes nothing.
 mod Bounds
 mod NumberNine
 mod PrefixLaw
 mod RefusedRecord
+mod Remembered
 mod TableInSessions
 mod TableOfNumbers
 mod Tells
@@ -13,15 +14,20 @@ use Rattle.demands.proofs.Demand1.Bounds.{bounded}
 use Rattle.demands.proofs.Demand1.NumberNine.{answer-full, full-tick, tick-full}
 use Rattle.demands.proofs.Demand1.PrefixLaw.{prefix}
 use Rattle.demands.proofs.Demand1.RefusedRecord.{left-off}
+use Rattle.demands.proofs.Demand1.Remembered.{declared-measured, session-measured}
 use Rattle.demands.proofs.Demand1.TableInSessions.{by-table, refused-there}
 use Rattle.demands.proofs.Demand1.TableOfNumbers.{given, holds-given}
 use Rattle.demands.proofs.Shared.NoRoom.{full-answer}
-use Rattle.demands.specs.Numbers.{Fitted, Given, LeftOff, NoRoom, NoRoomAfter, tickedLog, tickedModel}
+use Rattle.demands.specs.Alone.{Present}
+use Rattle.demands.specs.Happenings.{carried}
+use Rattle.demands.specs.Numbers.{Fitted, Given, LeftOff, NoRoom, NoRoomAfter, measuredIn, tickedLog, tickedModel}
 use Rattle.demands.specs.Stands.{output, stands, takenWhole, written}
+use Rattle.device.specs.Device.{declaredModel, instanceAt}
 use Rattle.device.specs.Frame.{frameLog}
 use Rattle.device.specs.declared.model.Model.{Model}
+use Rattle.judging.proofs.Asking.{number-refused}
 use Rattle.judging.specs.Asked.{asked}
-use Rattle.judging.specs.Refusals.{numberOf}
+use Rattle.judging.specs.Refusals.{everyNumber, numberOf, refusalNumbers}
 use Rattle.judging.specs.declared.asked.Asked.the-variants.{Frame, Refused, Ticks}
 use Rattle.judging.specs.declared.asked.Refusal.the-variants.{Full}
 use Rattle.judging.specs.declared.asked.Refusal.{Refusal}
@@ -29,8 +35,11 @@ use Rattle.record.specs.Log.{AllBytes, Logged, bytesOf}
 use Rattle.session.proofs.Bounds.{reading-within, session-within}
 use Rattle.session.specs.Session.{End, reading, refused, session, step}
 use lib.ListN.{drop, length}
+use mathlib.Core.Bool.{false, _||_}
 use mathlib.Core.List.{List, _++_}
+use mathlib.Core.Logic.{_≢_}
 use mathlib.Core.Path.{ap, _≡_}
+use types.Run.{OneOf}
 
 -- ---- any bytes: `session` is a function of any model, any bytes and any room, so the reading ends. r is what it gives back.
 module _ (m : Model) (xs : List ℕ) (room : ℕ) where
@@ -58,8 +67,8 @@ module _ (m : Model) (xs : List ℕ) (room : ℕ) where
   pub ticks-counted : AllBytes xs → r .ticks ≤ 65535
   ticks-counted = bounded m xs room .counted
 
-  -- "numbers 1 to 9", and 0 when all records are taken
-  pub numbers : r .number ≤ 9
+  -- the number is one of those that there are: 0 when all records are taken, else a refusal's
+  pub numbers : OneOf everyNumber (r .number)
   numbers = bounded m xs room .numbered
 
   -- "the offset of the refused record (for 0 the session length)"
@@ -77,8 +86,8 @@ module _ (m : Model) (xs : List ℕ) (room : ℕ) where
   pub refused-at : 0 < r .number → LeftOff m xs room r
   refused-at = left-off m xs room
 
-  -- a number from 1 to 8 is given as the table says, of the record at the offset and the model left
-  pub number-by-table : AllBytes xs → 0 < r .number → r .number < 9
+  -- a refusal's number but 9 is given as the table says, of the record at the offset and the model left
+  pub number-by-table : AllBytes xs → 0 < r .number → r .number ≢ 9
       → (why : Refusal) × (r .number ≡ numberOf why) × Given why (drop (r .offset) xs) (r .model)
   number-by-table = by-table m xs room
 
@@ -87,8 +96,12 @@ pub written-from : (most : ℕ) (rest : List ℕ) (room at : ℕ) (m : Model) (l
     → length (bytesOf (reading most rest room at m log .log)) ≤ room
 written-from = reading-within
 
+-- each number of the list but 0 is a refusal's
+pub number-of-refusal : (n : ℕ) → OneOf refusalNumbers n → (why : Refusal) × (n ≡ numberOf why)
+number-of-refusal = number-refused
+
 -- ---- "Given exactly when": each number of the table, of the record at the front of `rest`
--- 1 to 8, in the table's order: `Given` is the row, with none of the earlier ones
+-- all but 9, in the table's order: `Given` is the row, with none of the earlier ones
 pub number-exactly : (rest : List ℕ) (m : Model) → AllBytes rest → (why : Refusal)
     → (asked rest m ≡ Refused why → Given why rest m) × (Given why rest m → asked rest m ≡ Refused why)
 number-exactly rest m bytes why = (holds-given rest m bytes why, given rest m bytes why)
@@ -99,6 +112,16 @@ pub number-there : (m : Model) (ys zs : List ℕ) (room : ℕ) → session m ys 
     → session m (ys ++ zs) room
     ≡ record { model = session m ys room .model; number = numberOf why; offset = length ys; ticks = 0; log = session m ys room .log }
 number-there = refused-there
+
+-- 13: "after a valid sample" is what happened. As declared an instance has had none,
+pub none-measured : (m : Model) (type resolution : ℕ) → length (m .instances) ≡ 16 → m .declared < 16
+    → instanceAt (declaredModel m type resolution) (m .declared) .measured ≡ false
+none-measured = declared-measured
+
+-- and after a session it has had one where it had one before, or where a valid sample was taken for it there
+pub measured-by-samples : {i : ℕ} (m : Model) → Present i m → (xs : List ℕ) (room : ℕ)
+    → instanceAt (session m xs room .model) i .measured ≡ (instanceAt m i .measured || measuredIn i (carried m xs room))
+measured-by-samples = session-measured
 
 -- 9 of one answer
 pub nine-of-answer : (first second third room : ℕ) (m : Model) (log : List Logged)

@@ -8,7 +8,8 @@ mod FourKinds
 mod FullSessionRead
 mod RecordTaken
 use Prim.Native.Nat.{ℕ, _+_, _≤_}
-use Rattle.command.specs.Answering.{ButLatch}
+use Rattle.command.proofs.Measured.{act-unread}
+use Rattle.command.specs.Answering.{ButLatch, acted}
 use Rattle.demands.proofs.Demand2.FourKinds.{front-known}
 use Rattle.demands.proofs.Demand2.FullSessionRead.{whole}
 use Rattle.demands.proofs.Demand2.RecordTaken.{taken-behind}
@@ -27,7 +28,10 @@ use Rattle.device.specs.Frame.{counts, frameLog, frameModel, loads}
 use Rattle.device.specs.declared.model.Model.{Model}
 use Rattle.opcode.specs.Meaning.{isSetting, meant}
 use Rattle.record.specs.Log.{AN, AllBytes, EV, bytesOf}
+use Rattle.sensor.proofs.Measured.{tick-unread}
+use Rattle.sensor.specs.Instance.{withMeasured}
 use Rattle.sensor.specs.Tick.{isEvent, ticked}
+use Rattle.sensor.specs.declared.instance.Instance.{Instance}
 use Rattle.sensor.specs.declared.settings.Sample.{Sample}
 use Rattle.session.specs.Session.{End, session, forC}
 use Rattle.ticks.proofs.Ticked.{tick-past}
@@ -35,7 +39,7 @@ use Rattle.ticks.specs.Tick.{tickLog, tickModel}
 use Rattle.timers.specs.Pace.{noted}
 use borrow.Author.Tests.{eq-eqb}
 use lib.ListN.{length, take}
-use mathlib.Core.Bool.{false, true}
+use mathlib.Core.Bool.{Bool, false, true}
 use mathlib.Core.List.{List, [], _++_, _∷_}
 use mathlib.Core.Logic.{_≢_}
 use mathlib.Core.Path.{refl, _≡_}
@@ -106,6 +110,14 @@ module _ (m : Model) where
 
   pub tick-keeps-undeclared : (i : ℕ) → m .declared ≤ i → instanceAt (tickModel m) i ≡ instanceAt m i
   tick-keeps-undeclared = tick-past m
+
+-- M-110: whether an instance has had a valid sample is read by the judging of SA alone. With that put otherwise a tick sends the same and byte 3
+-- is answered the same, and what they leave is the same but for that
+pub measured-unread : (x : Instance) (b : Bool)
+    → (ticked (withMeasured b x) ≡ record { instance = withMeasured b (ticked x .instance); sent = ticked x .sent })
+    × ((opcode dtr0 : ℕ) → acted (withMeasured b x) opcode dtr0
+    ≡ record { instance = withMeasured b (acted x opcode dtr0 .instance); answer = acted x opcode dtr0 .answer })
+measured-unread x b = (tick-unread x b, act-unread x b)
 
 -- ---- THE FOUR MODELS: "Demand 2 shuts out a model that refuses all, one that logs a fixed answer, one that does nothing, and one that works the
 -- first tick of a TK and only advances the number in the others"

@@ -1,4 +1,4 @@
--- Document 01, "Numbers given when a record is not taken": the table, each row as a condition on what is left of a session and on the model.
+-- Document 01, "Numbers given when a record is not taken", with M-110: the table, each row as a condition on what is left of a session and on the model.
 -- Order: mark present (2), mark known (1), record whole (2), then the record's own numbers in rising order. And "Session and log records": the
 -- four kinds of a session's records.
 -- Assumes nothing.
@@ -8,20 +8,22 @@ use Rattle.device.specs.Device.{instanceAt}
 use Rattle.device.specs.declared.model.Model.{Model}
 use Rattle.judging.specs.Asked.{asked, sampleIn}
 use Rattle.judging.specs.Refusals.{numberOf}
-use Rattle.judging.specs.declared.asked.Refusal.the-variants.{BadSample, Cut, Full, LateOrSkipped, NoSuchSensor, NoTicks, TimeOver, Undeclared, UnknownMark}
+use Rattle.judging.specs.declared.asked.Refusal.the-variants.{BadSample, Cut, Full, LateOrSkipped, NoSuchSensor, NoTicks, NotReadyAgain, TimeOver, Undeclared, UnknownMark}
 use Rattle.judging.specs.declared.asked.Refusal.{Refusal}
 use Rattle.record.specs.Log.{Logged, bytesOf}
 use Rattle.record.specs.Marks as marks
 use Rattle.record.specs.Marks.{markSize}
 use Rattle.record.specs.Numbers.{byte, word}
 use Rattle.record.specs.declared.marks.Mark.the-variants.{Bus, Declaration, Measurement, Time}
+use Rattle.sensor.specs.declared.instance.Instance.{Instance}
 use Rattle.sensor.specs.declared.kind.Kind.the-variants.{Light, Occupancy}
 use Rattle.sensor.specs.declared.kind.Kind.{Kind}
 use Rattle.sensor.specs.declared.settings.Sample.{Sample}
 use Rattle.session.specs.Session.{End, refused, session, step}
 use Rattle.ticks.specs.Tick.{tickLog}
+use lib.Dec.{eqb}
 use lib.ListN.{drop, length, replicate, take}
-use mathlib.Core.Bool.{true}
+use mathlib.Core.Bool.{Bool, false, true, _&&_, _||_}
 use mathlib.Core.List.{List, [], _++_, _∷_}
 use mathlib.Core.Logic.{_≢_, _⊎_}
 use mathlib.Core.Path.{_≡_}
@@ -75,6 +77,22 @@ Allowed (Light l) sample =
     ⊎ ((sample .status ≡ 1) × (sample .value ≡ 0)) ⊎ ((sample .status ≡ 2) × (sample .value ≡ 0))
 Allowed (Occupancy o) sample = ((sample .status ≡ 0) × (sample .value ≤ 3)) ⊎ ((sample .status ≡ 2) × (sample .value ≡ 0))
 
+-- M-110: "status 1 after a valid sample .. a failure between or not"
+abbrev pub GoesBack : Instance → Sample → Type 0
+GoesBack x sample = (x .measured ≡ true) × (sample .status ≡ 1)
+
+-- what happened is a valid sample for instance i: an SA with status 0 that was taken
+abbrev pub measures : (i : ℕ) → Happening → Bool
+measures i (declare type resolution) = false
+measures i (hold j sample) = eqb j i && eqb (sample .status) 0
+measures i (frame first second third) = false
+measures i tick = false
+
+-- one of what happened is
+unfoldable pub measuredIn : (i : ℕ) → List Happening → Bool
+measuredIn i [] = false
+measuredIn i (h ∷ hs) = measures i h || measuredIn i hs
+
 -- ---- the table: the record at the front of `rest` is refused so, in a device m
 abbrev pub Given : Refusal → List ℕ → Model → Type 0
 -- 1: mark unknown
@@ -99,6 +117,10 @@ Given NoTicks rest m = TK rest × (markSize Time ≤ length rest) × (word rest 
 Given TimeOver rest m = TK rest × (markSize Time ≤ length rest) × (word rest 2 ≢ 0) × (4294967295 < m .tick + word rest 2)
 -- 9 is a matter of the output that is left, and not of the record alone
 Given Full rest m = ⊥
+-- 13, for SA only, after 5 and 6: status 1 for an instance that has had a valid sample
+Given NotReadyAgain rest m =
+    SA rest × (markSize Measurement ≤ length rest) × Declared m (byte rest 2) × Allowed (instanceAt m (byte rest 2) .kind) (sampleIn rest)
+    × GoesBack (instanceAt m (byte rest 2)) (sampleIn rest)
 
 -- no row of the table refuses it
 abbrev pub NoneGiven : List ℕ → Model → Type 0

@@ -2,12 +2,13 @@
 -- Assumes nothing.
 use Prim.Native.Nat.{ℕ, _<_, _≤_}
 use Rattle.command.proofs.Laws.{calm-keeps}
+use Rattle.command.proofs.Measured.{act-measured}
 use Rattle.command.specs.Answering.{ButLatch}
 use Rattle.command.specs.declared.answering.Answer.the-variants.{Byte, None}
 use Rattle.command.specs.declared.answering.Answer.{Answer}
-use Rattle.device.proofs.Laws.{declared-full, declared-next}
+use Rattle.device.proofs.Laws.{declared-full, declared-next, frame-by, numbered-other}
 use Rattle.device.specs.Device.{declaredModel, heldModel, instanceAt}
-use Rattle.device.specs.Frame.{actedAt, answerLog, counts, frameLog, loads, numberedLog, numberedModel}
+use Rattle.device.specs.Frame.{actedAt, answerLog, counts, frameLog, frameModel, loads, numberedLog, numberedModel}
 use Rattle.device.specs.declared.model.Model.{Model}
 use Rattle.opcode.specs.Meaning.{isSetting, meant}
 use Rattle.record.specs.Log.{answerSize, bytesOf, encoded}
@@ -21,7 +22,7 @@ use lib.Seq.{getD-set-same, set-out}
 use mathlib.Core.Bool.{Bool, cond, false, true}
 use mathlib.Core.List.{[]}
 use mathlib.Core.Path.{ap, refl, sym, _≡_, _∙_}
-use native.Mathlib.Decide.{decLe, decLt}
+use native.Mathlib.Decide.{decLe, decLt, ℕ-discrete}
 use native.Mathlib.Omega.{arith}
 
 -- ---- SA, of an instance that the device has a place for
@@ -41,15 +42,29 @@ declared-more m type resolution = by (decLe 16 (m .declared))
 pub alike : {x y : Instance} → y ≡ x → ButLatch x y
 alike {x} e = e ∙ ap (λ z. withLatch (z .latch) x) (sym e)
 
--- what means no setting command to its instance changes at most the latch, whether the device has a place for it or not
+-- the instance is as byte 3 leaves it or, where the device has no place for it, as it was
+numbered-by : (P : Instance → Type 0) (m : Model) (i opcode : ℕ) → P (instanceAt m i) → P (actedAt m i opcode .instance) → P (instanceAt (numberedModel m i opcode) i)
+unfolding numberedModel instanceAt
+numbered-by P m i opcode was acts = go (decLt i (length (m .instances)))
+  where
+    go : Dec (i < length (m .instances)) → P (instanceAt (numberedModel m i opcode) i)
+    go (yes h) = rw (getD-set-same (m .instances) i (actedAt m i opcode .instance) sensors.blank h) acts
+    go (no h) = let out : length (m .instances) ≤ i = omega arith in rw (set-out (m .instances) i (actedAt m i opcode .instance) out) was
+
+-- what means no setting command to its instance changes at most the latch
 pub numbered-latch : (m : Model) (i opcode : ℕ) → isSetting (meant (instanceAt m i .kind) opcode) ≡ false
     → ButLatch (instanceAt m i) (instanceAt (numberedModel m i opcode) i)
-unfolding numberedModel instanceAt
-numbered-latch m i opcode e = go (decLt i (length (m .instances)))
+numbered-latch m i opcode e = numbered-by (ButLatch (instanceAt m i)) m i opcode (alike refl) (calm-keeps (instanceAt m i) opcode (m .dtr0) e)
+
+-- M-110: no frame changes whether an instance has had a valid sample
+pub frame-measured : (m : Model) (first second third i : ℕ) → instanceAt (frameModel m first second third) i .measured ≡ instanceAt m i .measured
+unfolding instanceAt
+frame-measured m first second third i = frame-by m first second third (λ x. instanceAt x i .measured ≡ instanceAt m i .measured) refl (by (ℕ-discrete i second)) refl
   where
-    go : Dec (i < length (m .instances)) → ButLatch (instanceAt m i) (instanceAt (numberedModel m i opcode) i)
-    go (yes h) = rw (getD-set-same (m .instances) i (actedAt m i opcode .instance) sensors.blank h) (calm-keeps (instanceAt m i) opcode (m .dtr0) e)
-    go (no h) = let out : length (m .instances) ≤ i = omega arith in rw (set-out (m .instances) i (actedAt m i opcode .instance) out) (alike refl)
+    by : Dec (i ≡ second) → instanceAt (numberedModel m second third) i .measured ≡ instanceAt m i .measured
+    by (no other) = ap (λ x. x .measured) (numbered-other m second third i other)
+    by (yes same) =
+        rw (sym same) (numbered-by (λ x. x .measured ≡ instanceAt m i .measured) m i third refl (act-measured (instanceAt m i) third (m .dtr0)))
 
 -- one answer is short
 answer-most : (t i : ℕ) (a : Answer) → length (bytesOf (answerLog t i a)) ≤ answerSize

@@ -200,7 +200,7 @@ module _ (m : Model) (first second third : ℕ) where
   pub frame-loaded : loads first second ≡ true → frameModel m first second third .dtr0 ≡ third
   frame-loaded l = ap (λ (x : Model). x .dtr0) (frame-loads l .0)
 
-  frame-by : (P : Model → Type 0)
+  pub frame-by : (P : Model → Type 0)
       → P (underWay (withDtr0 third m)) → P (numberedModel m second third) → P (underWay m)
       → P (frameModel m first second third)
   unfolding frameModel

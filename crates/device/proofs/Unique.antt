@@ -2,8 +2,6 @@
 -- the promise itself, as the checker reads the function's `ensures`.
 -- Assumes nothing.
 use Prim.Native.Nat.{ℕ}
-use Rattle.device.proofs.allows.Kinds as allows-kinds
-use Rattle.device.proofs.allows.Reads as allows
 use Rattle.device.proofs.declare.Kinds as declare-kinds
 use Rattle.device.proofs.declare.Reads as declare
 use Rattle.device.proofs.frame.Kinds as frame-kinds
@@ -27,6 +25,3 @@ known-unique κs a x y s t p q = p ∙ sym q
 
 pub declare-unique : Unique 0 declare-kinds.ps declare-kinds.r declare.Post
 declare-unique κs a x y s t p q = p ∙ sym q
-
-pub allows-unique : Unique 0 allows-kinds.ps allows-kinds.r allows.Post
-allows-unique κs a x y s t p q = p ∙ sym q

@@ -6,7 +6,6 @@ mod model;
 pub use frames::frame;
 pub use model::Model;
 pub use model::Offered;
-pub use model::allows;
 pub use model::declare;
 pub use model::fresh;
 pub use model::known;

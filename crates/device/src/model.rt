@@ -1,7 +1,6 @@
-// The device by value: who is declared, and which samples they take.
+// The device by value, and who is declared.
 use sensor::Instance;
-use sensor::Sample;
-ghost use Rattle.device.specs.Device.{allowed, declaredModel, fresh, known};
+ghost use Rattle.device.specs.Device.{declaredModel, fresh, known};
 ghost use mathlib.Core.Path.{_≡_};
 
 // running: a record that is no IN was taken, and declarations are over. declared: how many instances are.
@@ -54,18 +53,4 @@ pub fn declare(model: Model, sensor_type: u8, resolution: u8) -> Model
         m.declared = next + 1;
     }
     m
-}
-
-// The sample is one that the instance's type takes. Of an instance that there cannot be, none is.
-pub fn allows(model: Model, instance: u8, sample: Sample) -> bool
-    ensures { λ r. ⌜ r ≡ allowed model instance sample ⌝ }
-{
-    let i = instance as usize;
-    if i < 16 {
-        let x = model.instances[i];
-        let kind = x.kind;
-        kind.allows(sample)
-    } else {
-        false
-    }
 }

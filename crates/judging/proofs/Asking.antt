@@ -2,13 +2,13 @@
 -- ticks are within the time that is left.
 -- Assumes nothing.
 use Prim.Native.Nat.{ℕ, max, _-_, _<_, _≤_}
-use Rattle.device.specs.Device.{allowed, known}
+use Rattle.device.specs.Device.{allowed, instanceAt, known}
 use Rattle.device.specs.declared.model.Model.{Model}
 use Rattle.judging.specs.Asked.{asked, askedBy, declareAsked, frameAsked, sampleAsked, sampleIn, sizeOf, ticksAsked}
-use Rattle.judging.specs.Refusals.{numberOf}
+use Rattle.judging.specs.Refusals.{numberOf, refusalNumbers}
 use Rattle.judging.specs.declared.asked.Asked.the-variants.{Declare, Frame, Hold, Refused, Ticks}
 use Rattle.judging.specs.declared.asked.Asked.{Asked}
-use Rattle.judging.specs.declared.asked.Refusal.the-variants.{BadSample, Cut, Full, LateOrSkipped, NoSuchSensor, NoTicks, TimeOver, Undeclared, UnknownMark}
+use Rattle.judging.specs.declared.asked.Refusal.the-variants.{BadSample, Cut, Full, LateOrSkipped, NoSuchSensor, NoTicks, NotReadyAgain, TimeOver, Undeclared, UnknownMark}
 use Rattle.judging.specs.declared.asked.Refusal.{Refusal}
 use Rattle.record.proofs.Bytes.{all-below}
 use Rattle.record.specs.Log.{AllBytes}
@@ -17,15 +17,17 @@ use Rattle.record.specs.Numbers.{byte, word}
 use Rattle.record.specs.declared.marks.Mark.the-variants.{Bus, Declaration, Measurement, Time, Unknown}
 use Rattle.record.specs.declared.marks.Mark.{Mark}
 use Rattle.sensor.specs.Kind.{modelled}
+use Rattle.sensor.specs.Tick.{goesBack}
 use borrow.Author.Tests.{le-ltb, ltb-false}
 use lib.Dec.{eqb, ltb}
 use lib.ListN.{List·getD-append, length, length-append, take}
 use lib.Seq.{getD-take, length-take-le}
 use mathlib.Core.Bool.{Bool, cond, false, not, true, _&&_, _||_}
 use mathlib.Core.List.{List, _++_}
-use mathlib.Core.Logic.{inl, inr, _⊎_}
+use mathlib.Core.Logic.{inl, inr, _≢_, _⊎_}
 use mathlib.Core.Path.{ap, refl, subst, sym, _∙_, _≡_}
 use native.Mathlib.Omega.{arith}
+use types.Run.{OneOf, hit, miss}
 
 -- ---- what follows a record does not matter to it
 -- two byte strings with the same first `size` bytes
@@ -121,7 +123,11 @@ module _ (rest : List ℕ) (m : Model) (l : 2 ≤ length rest) where
       (by-test (Sized (markSize Declaration)) (ltb (byte rest 2) 16 && modelled (byte rest 3) (byte rest 4)) _ _ (inr refl) (inl refl)))
   whole-by Measurement =
       whole-if (markSize Measurement) (length rest) _
-      (by-test (Sized (markSize Measurement)) (known m (byte rest 2)) _ _ (by-test (Sized (markSize Measurement)) (allowed m (byte rest 2) (sampleIn rest)) _ _ (inr refl) (inl refl)) (inl refl))
+      (by-test (Sized (markSize Measurement)) (known m (byte rest 2)) _ _
+      (by-test (Sized (markSize Measurement)) (allowed m (byte rest 2) (sampleIn rest)) _ _
+      (by-test (Sized (markSize Measurement)) (goesBack (instanceAt m (byte rest 2)) (sampleIn rest)) _ _ (inl refl) (inr refl))
+      (inl refl))
+      (inl refl))
   whole-by Bus = whole-if (markSize Bus) (length rest) _ (inr refl)
   whole-by Time =
       whole-if (markSize Time) (length rest) _
@@ -198,7 +204,7 @@ refused-still rest m why uncut e ys =
 
 -- ---- BY KINDS: what holds of each refusal but 9, and of each kind of record that is whole, holds of what is asked for
 module _ (P : Asked → Type 0) (rest : List ℕ) (m : Model)
-    (refuse : (why : Refusal) → numberOf why < 9 → P (Refused why))
+    (refuse : (why : Refusal) → numberOf why ≢ 9 → P (Refused why))
     (declares : P (Declare (byte rest 3) (byte rest 4)))
     (holds : P (Hold (byte rest 2) (sampleIn rest)))
     (frames : P (Frame (byte rest 2) (byte rest 3) (byte rest 4)))
@@ -219,7 +225,9 @@ module _ (P : Asked → Type 0) (rest : List ℕ) (m : Model)
     kind-by Measurement =
         by-test P (ltb (length rest) (markSize Measurement)) _ _ (refuse Cut (omega arith))
         (by-test P (known m (byte rest 2)) _ _
-        (by-test P (allowed m (byte rest 2) (sampleIn rest)) _ _ holds (refuse BadSample (omega arith)))
+        (by-test P (allowed m (byte rest 2) (sampleIn rest)) _ _
+        (by-test P (goesBack (instanceAt m (byte rest 2)) (sampleIn rest)) _ _ (refuse NotReadyAgain (omega arith)) holds)
+        (refuse BadSample (omega arith)))
         (refuse Undeclared (omega arith)))
     kind-by Bus = by-test P (ltb (length rest) (markSize Bus)) _ _ (refuse Cut (omega arith)) frames
     kind-by Time =
@@ -259,15 +267,35 @@ as-ticks (Hold i sample) h = absurd (omega arith)
 as-ticks (Frame first second third) h = absurd (omega arith)
 as-ticks (Ticks n) h = refl
 
--- ---- the number of a refusal: 0 is given only when all records are taken
-pub refused-number : (why : Refusal) → (1 ≤ numberOf why) × (numberOf why ≤ 9)
+-- ---- the numbers: that of a refusal is one of the list, and each of the list is a refusal's
+pub refused-number : (why : Refusal) → OneOf refusalNumbers (numberOf why)
 unfolding numberOf
-refused-number UnknownMark = omega arith
-refused-number Cut = omega arith
-refused-number LateOrSkipped = omega arith
-refused-number NoSuchSensor = omega arith
-refused-number Undeclared = omega arith
-refused-number BadSample = omega arith
-refused-number NoTicks = omega arith
-refused-number TimeOver = omega arith
-refused-number Full = omega arith
+refused-number UnknownMark = hit refusalNumbers 1 tt
+refused-number Cut = hit refusalNumbers 2 tt
+refused-number LateOrSkipped = hit refusalNumbers 3 tt
+refused-number NoSuchSensor = hit refusalNumbers 4 tt
+refused-number Undeclared = hit refusalNumbers 5 tt
+refused-number BadSample = hit refusalNumbers 6 tt
+refused-number NoTicks = hit refusalNumbers 7 tt
+refused-number TimeOver = hit refusalNumbers 8 tt
+refused-number Full = hit refusalNumbers 9 tt
+refused-number NotReadyAgain = hit refusalNumbers 13 tt
+
+pub number-refused : (n : ℕ) → OneOf refusalNumbers n → (why : Refusal) × (n ≡ numberOf why)
+unfolding numberOf
+number-refused n (inl e) = (UnknownMark, e)
+number-refused n (inr (inl e)) = (Cut, e)
+number-refused n (inr (inr (inl e))) = (LateOrSkipped, e)
+number-refused n (inr (inr (inr (inl e)))) = (NoSuchSensor, e)
+number-refused n (inr (inr (inr (inr (inl e))))) = (Undeclared, e)
+number-refused n (inr (inr (inr (inr (inr (inl e)))))) = (BadSample, e)
+number-refused n (inr (inr (inr (inr (inr (inr (inl e))))))) = (NoTicks, e)
+number-refused n (inr (inr (inr (inr (inr (inr (inr (inl e)))))))) = (TimeOver, e)
+number-refused n (inr (inr (inr (inr (inr (inr (inr (inr (inl e))))))))) = (Full, e)
+number-refused n (inr (inr (inr (inr (inr (inr (inr (inr (inr e))))))))) = (NotReadyAgain, e)
+
+-- 0 is given only when all records are taken
+pub refused-some : (why : Refusal) → 1 ≤ numberOf why
+refused-some why =
+    let some : numberOf why ≢ 0 = λ z. miss refusalNumbers 0 tt (subst (OneOf refusalNumbers) z (refused-number why)) in
+    omega (arith, some)

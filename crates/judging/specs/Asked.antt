@@ -1,17 +1,18 @@
--- Document 01, "Session and log records" and "Numbers given when a record is not taken": the record at the front of what is left of a
+-- Document 01, "Session and log records" and "Numbers given when a record is not taken", with M-110: the record at the front of what is left of a
 -- session, and every refusal but 9. Order: mark present (2), mark known (1), record whole (2), then the record's own numbers rising.
 -- Assumes nothing.
 use Prim.Native.Nat.{ℕ, _+_, _-_, _<_, _^_, _≤_}
-use Rattle.device.specs.Device.{allowed, known}
+use Rattle.device.specs.Device.{allowed, instanceAt, known}
 use Rattle.device.specs.declared.model.Model.{Model}
 use Rattle.judging.specs.declared.asked.Asked.the-variants.{Declare, Frame, Hold, Refused, Ticks}
 use Rattle.judging.specs.declared.asked.Asked.{Asked}
-use Rattle.judging.specs.declared.asked.Refusal.the-variants.{BadSample, Cut, LateOrSkipped, NoSuchSensor, NoTicks, TimeOver, Undeclared, UnknownMark}
+use Rattle.judging.specs.declared.asked.Refusal.the-variants.{BadSample, Cut, LateOrSkipped, NoSuchSensor, NoTicks, NotReadyAgain, TimeOver, Undeclared, UnknownMark}
 use Rattle.record.specs.Marks.{markOf, markSize}
 use Rattle.record.specs.Numbers.{byte, triple, word}
 use Rattle.record.specs.declared.marks.Mark.the-variants.{Bus, Declaration, Measurement, Time, Unknown}
 use Rattle.record.specs.declared.marks.Mark.{Mark}
 use Rattle.sensor.specs.Kind.{modelled}
+use Rattle.sensor.specs.Tick.{goesBack}
 use Rattle.sensor.specs.declared.settings.Sample.{Sample}
 use lib.Dec.{eqb, ltb}
 use lib.ListN.{length}
@@ -34,7 +35,9 @@ unfoldable pub sampleAsked : List ℕ → Model → Asked
 sampleAsked rest m =
     cond (ltb (length rest) (markSize Measurement)) (Refused Cut)
     (cond (known m (byte rest 2))
-    (cond (allowed m (byte rest 2) (sampleIn rest)) (Hold (byte rest 2) (sampleIn rest)) (Refused BadSample))
+    (cond (allowed m (byte rest 2) (sampleIn rest))
+    (cond (goesBack (instanceAt m (byte rest 2)) (sampleIn rest)) (Refused NotReadyAgain) (Hold (byte rest 2) (sampleIn rest)))
+    (Refused BadSample))
     (Refused Undeclared))
 
 -- FR: the three frame bytes

@@ -6,7 +6,7 @@ ghost use Rattle.judging.specs.Asked.{Sound, asked, declareAsked, frameA
 ghost use Rattle.judging.specs.Refusals.{numberOf};
 ghost use mathlib.Core.Path.{_≡_};
 
-// Why a record is not taken, in the order of the numbers 1 to 9.
+// Why a record is not taken, in the order of the numbers.
 pub enum Refusal {
     UnknownMark,
     Cut,
@@ -17,6 +17,7 @@ pub enum Refusal {
     NoTicks,
     TimeOver,
     Full,
+    NotReadyAgain,
 }
 
 // What a record asks for.
@@ -42,6 +43,7 @@ pub fn number_of(refusal: Refusal) -> u8
         Refusal::NoTicks => 7,
         Refusal::TimeOver => 8,
         Refusal::Full => 9,
+        Refusal::NotReadyAgain => 13,
     }
 }
 
@@ -92,17 +94,23 @@ fn sample_asked(rest: &[u8], model: Model) -> Asked
         return Asked::Refused(Refusal::Cut);
     }
     let instance = rest[2];
-    let sample = Sample {
-        status: rest[3],
-        value: record::triple(rest[4], rest[5], rest[6]),
-    };
+    let status = rest[3];
+    let value = record::triple(rest[4], rest[5], rest[6]);
+    let sample = Sample { status, value };
     if !device::known(model, instance) {
         return Asked::Refused(Refusal::Undeclared);
     }
-    if device::allows(model, instance, sample) {
-        return Asked::Hold { instance, sample };
+    // Where it lies: a model that is handed over is copied whole.
+    let i = instance as usize;
+    let x = model.instances[i];
+    let kind = x.kind;
+    if !kind.allows(sample) {
+        return Asked::Refused(Refusal::BadSample);
     }
-    Asked::Refused(Refusal::BadSample)
+    if x.goes_back(sample) {
+        return Asked::Refused(Refusal::NotReadyAgain);
+    }
+    Asked::Hold { instance, sample }
 }
 
 // FR, of which the mark is there.

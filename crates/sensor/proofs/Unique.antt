@@ -6,6 +6,8 @@ use Rattle.sensor.proofs.instance.Instance.declared.Kinds as Instance-d
 use Rattle.sensor.proofs.instance.Instance.declared.Reads as Instance-declared
 use Rattle.sensor.proofs.instance.Instance.fresh.Kinds as Instance-fresh-kinds
 use Rattle.sensor.proofs.instance.Instance.fresh.Reads as Instance-fresh
+use Rattle.sensor.proofs.instance.Instance.goes_back.Kinds as Instance-goes-back-kinds
+use Rattle.sensor.proofs.instance.Instance.goes_back.Reads as Instance-goes-back
 use Rattle.sensor.proofs.instance.Instance.holding.Kinds as Instance-holding-kinds
 use Rattle.sensor.proofs.instance.Instance.holding.Reads as Instance-holding
 use Rattle.sensor.proofs.instance.Instance.quiet_for.Kinds as Instance-quiet-for-kinds
@@ -96,6 +98,9 @@ Instance-declared-unique κs a x y s t p q = p ∙ sym q
 
 pub Instance-holding-unique : Unique 0 Instance-holding-kinds.ps Instance-holding-kinds.r Instance-holding.Post
 Instance-holding-unique κs a x y s t p q = p ∙ sym q
+
+pub Instance-goes-back-unique : Unique 0 Instance-goes-back-kinds.ps Instance-goes-back-kinds.r Instance-goes-back.Post
+Instance-goes-back-unique κs a x y s t p q = p ∙ sym q
 
 pub Instance-tick-unique : Unique 0 Instance-tick-kinds.ps Instance-tick-kinds.r Instance-tick.Post
 Instance-tick-unique κs a x y s t p q = p ∙ sym q

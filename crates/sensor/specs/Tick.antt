@@ -1,4 +1,4 @@
--- Document 01, "One tick", of one instance.
+-- Document 01, "Numbers given when a record is not taken", with M-110, and "One tick": a sample and a tick of one instance.
 -- Assumes nothing.
 use Rattle.sensor.specs.Instance.{withFailed, withHeld, withKind, withMeasured, withTimers}
 use Rattle.sensor.specs.Kind.{cause, information, rules, sent, taken}
@@ -16,11 +16,15 @@ use Rattle.timers.specs.declared.Decision.{Decision}
 use Rattle.timers.specs.declared.Rules.{Rules}
 use Rattle.timers.specs.declared.Timers.{Timers}
 use lib.Dec.{eqb}
-use mathlib.Core.Bool.{Bool, false, true, _||_}
+use mathlib.Core.Bool.{Bool, false, true, _&&_, _||_}
 
 -- SA only replaces the held sample; and that a valid one was taken is remembered (M-110)
 unfoldable pub holding : Instance → Sample → Instance
 holding x sample = withHeld sample (withMeasured (x .measured || eqb (sample .status) 0) x)
+
+-- M-110: status 1 for an instance that has had a valid sample, a failure between or not
+unfoldable pub goesBack : Instance → Sample → Bool
+goesBack x sample = x .measured && eqb (sample .status) 1
 
 -- ---- the end of a tick, as it was decided
 unfoldable pub kindAfter : Decision → Kind → Settings → Kind

@@ -9,7 +9,7 @@ use timers::Report;
 use timers::Timers;
 ghost use Rattle.sensor.specs.Fresh.{declared, fresh};
 ghost use Rattle.sensor.specs.Quiet.{quietFor, rested, steady};
-ghost use Rattle.sensor.specs.Tick.{closed, holding, kindAfter, sentAfter, ticked};
+ghost use Rattle.sensor.specs.Tick.{closed, goesBack, holding, kindAfter, sentAfter, ticked};
 ghost use mathlib.Core.Bool.{cond, not};
 ghost use mathlib.Core.Path.{_≡_};
 
@@ -80,6 +80,13 @@ impl Instance {
             measured: self.measured | (sample.status == 0),
             ..self
         }
+    }
+
+    // The sample would go back to not ready: status 1, though a valid sample was taken before (M-110).
+    pub fn goes_back(self, sample: Sample) -> bool
+        ensures { λ r. ⌜ r ≡ goesBack self sample ⌝ }
+    {
+        self.measured & (sample.status == 1)
     }
 
     // The timers fall, the held sample is taken, and at most one event is sent.

@@ -1,1 +1,2 @@
+mod Behind
 pub mod Unique

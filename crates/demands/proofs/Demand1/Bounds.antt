@@ -4,9 +4,9 @@ use Prim.Native.Nat.{ℕ, zero, suc, _<_, _≤_}
 use Rattle.demands.proofs.Shared.ByRecords.{by-records}
 use Rattle.demands.specs.Stands.{behind}
 use Rattle.device.specs.declared.model.Model.{Model}
-use Rattle.judging.proofs.Asking.{asked-size, refused-number, two-bytes}
+use Rattle.judging.proofs.Asking.{asked-size, refused-number, refused-some, two-bytes}
 use Rattle.judging.specs.Asked.{asked, sizeOf}
-use Rattle.judging.specs.Refusals.{numberOf}
+use Rattle.judging.specs.Refusals.{everyNumber, numberOf}
 use Rattle.judging.specs.declared.asked.Refusal.{Refusal}
 use Rattle.record.proofs.Bytes.{all-dropped}
 use Rattle.record.specs.Log.{AllBytes, Logged}
@@ -15,12 +15,14 @@ use Rattle.session.proofs.Records.{ended}
 use Rattle.session.specs.Session.{End, refused, session, step, taken}
 use lib.ListN.{drop, length, length-drop}
 use mathlib.Core.List.{List, []}
+use mathlib.Core.Logic.{inl, inr}
 use mathlib.Core.Path.{ap, refl, _≡_}
 use native.Mathlib.Omega.{arith}
+use types.Run.{OneOf}
 
 -- what is said of a reading's numbers
 pub record Bounded (xs : List ℕ) (r : End) : Type 0 where
-  pub numbered : r .number ≤ 9
+  pub numbered : OneOf everyNumber (r .number)
   pub ticked : 0 < r .ticks → r .number ≡ 9
   pub whole : r .number ≡ 0 → r .offset ≡ length xs
   pub before : 0 < r .number → r .offset < length xs
@@ -45,8 +47,8 @@ bounded-left : (m : Model) (xs : List ℕ) (room : ℕ) (why : Refusal) (t : ℕ
     → Kept (asked xs m) room m [] (refused why t m′ log) → Bounded xs (ended (numberOf why) 0 t m′ log)
 unfolding numberOf
 bounded-left m xs room why t m′ log some k =
-    let n = refused-number why in
-    record { numbered = omega arith; ticked = nine t k; whole = λ z. absurd (omega arith); before = λ z. some; counted = λ a. few t k a }
+    let n = refused-some why in
+    record { numbered = inr (refused-number why); ticked = nine t k; whole = λ z. absurd (omega arith); before = λ z. some; counted = λ a. few t k a }
   where
     nine : (t : ℕ) → Kept (asked xs m) room m [] (refused why t m′ log) → 0 < t → numberOf why ≡ 9
     nine zero k h = absurd (omega arith)
@@ -60,7 +62,7 @@ pub bounded : (m : Model) (xs : List ℕ) (room : ℕ) → Bounded xs (session m
 bounded m xs room =
     by-records (λ m xs room r. Bounded xs r)
     (λ m room. record {
-      numbered = omega arith;
+      numbered = inl refl;
       ticked = λ z. absurd (omega arith);
       whole = λ z. refl;
       before = λ z. absurd (omega arith);

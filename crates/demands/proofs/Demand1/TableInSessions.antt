@@ -1,4 +1,4 @@
--- The table of numbers, of a whole session: a number from 1 to 8 is its row's, and a row that holds where a session stands gives its number.
+-- The table of numbers, of a whole session: a refusal's number but 9 is its row's, and a row that holds where a session stands gives its number.
 -- Assumes nothing.
 use Prim.Native.Nat.{ℕ, _<_}
 use Rattle.demands.proofs.Demand1.RefusedRecord.{left-off}
@@ -19,16 +19,15 @@ use Rattle.session.proofs.Kept.{refused-by}
 use Rattle.session.specs.Session.{End, refused, session, step}
 use lib.ListN.{drop, length}
 use mathlib.Core.List.{List, [], append-nil, _++_}
-use mathlib.Core.Logic.{inl, inr, _⊎_}
+use mathlib.Core.Logic.{inl, inr, _≢_, _⊎_}
 use mathlib.Core.Path.{ap, ap₂, subst, sym, _∙_, _≡_}
 use native.Mathlib.Nat.{add-zero}
-use native.Mathlib.Omega.{arith}
 
--- a number from 1 to 8 is its row's
-pub by-table : (m : Model) (xs : List ℕ) (room : ℕ) → AllBytes xs → 0 < session m xs room .number → session m xs room .number < 9
+-- a refusal's number but 9 is its row's
+pub by-table : (m : Model) (xs : List ℕ) (room : ℕ) → AllBytes xs → 0 < session m xs room .number → session m xs room .number ≢ 9
     → (why : Refusal) × (session m xs room .number ≡ numberOf why) × Given why (drop (session m xs room .offset) xs) (session m xs room .model)
 unfolding numberOf
-by-table m xs room bytes some below = go (left-off m xs room some)
+by-table m xs room bytes some other = go (left-off m xs room some)
   where
     r : End
     r = session m xs room
@@ -43,7 +42,7 @@ by-table m xs room bytes some below = go (left-off m xs room some)
             → (why : Refusal) × (r .number ≡ numberOf why) × Given why rest (r .model)
         by (inl (e, same)) =
             (l .why, l .numbered, subst (Given (l .why) rest) (sym same) (holds-given rest (l .model) (all-dropped (r .offset) xs bytes) (l .why) e))
-        by (inr full) = absurd (omega (arith, below, l .numbered, ap numberOf full))
+        by (inr full) = absurd (other (l .numbered ∙ ap numberOf full))
 
 -- bytes behind a session that was taken whole
 module _ (m : Model) (ys zs : List ℕ) (room : ℕ) (whole : session m ys room .number ≡ 0) (some : 0 < length zs) (bytes : AllBytes zs) where

@@ -3,14 +3,14 @@
 use Prim.Native.Nat.{ℕ, _-_, _<_, _^_, _≤_}
 use Rattle.demands.proofs.Demand1.Tells.{Tells, fails, holds, tells-and, tells-as, tells-bool, tells-cond, tells-eqb, tells-leb, tells-ltb, tells-not, tells-or}
 use Rattle.demands.proofs.Shared.Marks.{MarkIs, fr-asked, in-asked, mark-is, sa-asked, tk-asked, unknown-mark}
-use Rattle.demands.specs.Numbers.{Allowed, Declared, FR, Given, IN, Late, NoSensor, SA, TK}
+use Rattle.demands.specs.Numbers.{Allowed, Declared, FR, Given, GoesBack, IN, Late, NoSensor, SA, TK}
 use Rattle.device.specs.Device.{allowed, instanceAt, known}
 use Rattle.device.specs.declared.model.Model.{Model}
 use Rattle.judging.proofs.Asking.{marked}
 use Rattle.judging.specs.Asked.{asked, askedBy, declareAsked, frameAsked, sampleAsked, sampleIn, ticksAsked}
 use Rattle.judging.specs.declared.asked.Asked.the-variants.{Declare, Frame, Hold, Refused, Ticks}
 use Rattle.judging.specs.declared.asked.Asked.{Asked}
-use Rattle.judging.specs.declared.asked.Refusal.the-variants.{BadSample, Cut, Full, LateOrSkipped, NoSuchSensor, NoTicks, TimeOver, Undeclared, UnknownMark}
+use Rattle.judging.specs.declared.asked.Refusal.the-variants.{BadSample, Cut, Full, LateOrSkipped, NoSuchSensor, NoTicks, NotReadyAgain, TimeOver, Undeclared, UnknownMark}
 use Rattle.judging.specs.declared.asked.Refusal.{Refusal}
 use Rattle.record.specs.Log.{AllBytes}
 use Rattle.record.specs.Marks.{markOf, markSize}
@@ -20,6 +20,8 @@ use Rattle.record.specs.declared.marks.Mark.{Mark}
 use Rattle.sensor.specs.Kind.{allows, modelled}
 use Rattle.sensor.specs.Light.{lightAllows}
 use Rattle.sensor.specs.Occupancy.{occupancyAllows}
+use Rattle.sensor.specs.Tick.{goesBack}
+use Rattle.sensor.specs.declared.instance.Instance.{Instance}
 use Rattle.sensor.specs.declared.kind.Kind.the-variants.{Light, Occupancy}
 use Rattle.sensor.specs.declared.kind.Kind.{Kind}
 use Rattle.sensor.specs.declared.settings.Sample.{Sample}
@@ -105,6 +107,10 @@ allowed-tells : (m : Model) (i : ℕ) (s : Sample) → Declared m i → Tells (a
 unfolding allowed
 allowed-tells m i s d = rw (lt-ltb i 16 (d .1)) (allows-tells (instanceAt m i .kind) s)
 
+back-tells : (x : Instance) (s : Sample) → Tells (goesBack x s) (GoesBack x s)
+unfolding goesBack
+back-tells x s = tells-and (tells-bool (x .measured)) (tells-eqb (s .status) 1)
+
 module _ (rest : List ℕ) (m : Model) where
   -- ---- a row that holds is given
   pub given : AllBytes rest → (why : Refusal) → Given why rest m → asked rest m ≡ Refused why
@@ -131,6 +137,14 @@ module _ (rest : List ℕ) (m : Model) where
   given bytes TimeOver (k, h, n, over) =
       tk-asked rest m k ∙ rw (le-ltb (length rest) (markSize Time) h, ne-eqb (word rest 2) 0 n, lt-ltb (4294967295 - m .tick) (word rest 2) (omega arith))
   given bytes Full n = absurd n
+  given bytes NotReadyAgain (k, h, d, a, b) =
+      sa-asked rest m k
+      ∙ rw (
+        le-ltb (length rest) (markSize Measurement) h,
+        holds (known-tells m (byte rest 2)) d,
+        holds (allowed-tells m (byte rest 2) (sampleIn rest) d) a,
+        holds (back-tells (instanceAt m (byte rest 2)) (sampleIn rest)) b,
+      )
 
   -- ---- what is given holds
   abbrev Says : Asked → Type 0
@@ -158,16 +172,24 @@ module _ (rest : List ℕ) (m : Model) where
 
   sa-says : SA rest → Says (sampleAsked rest m)
   unfolding sampleAsked
-  sa-says k = go (ltb (length rest) (markSize Measurement)) refl (known m (byte rest 2)) refl (allowed m (byte rest 2) (sampleIn rest)) refl
+  sa-says k =
+      go (ltb (length rest) (markSize Measurement)) refl (known m (byte rest 2)) refl (allowed m (byte rest 2) (sampleIn rest)) refl
+      (goesBack (instanceAt m (byte rest 2)) (sampleIn rest)) refl
     where
       go : (a : Bool) → ltb (length rest) (markSize Measurement) ≡ a → (b : Bool) → known m (byte rest 2) ≡ b → (c : Bool) → allowed m (byte rest 2) (sampleIn rest) ≡ c
-          → Says (cond a (Refused Cut) (cond b (cond c (Hold (byte rest 2) (sampleIn rest)) (Refused BadSample)) (Refused Undeclared)))
-      go true e b f c g = inr (inr (inl (k, ltb-true (length rest) (markSize Measurement) e)))
-      go false e false f c g = (k, ltb-false (length rest) (markSize Measurement) e, known-tells m (byte rest 2) .no f)
-      go false e true f true g = tt
-      go false e true f false g =
-          let d = known-tells m (byte rest 2) .yes f in
-          (k, ltb-false (length rest) (markSize Measurement) e, d, allowed-tells m (byte rest 2) (sampleIn rest) d .no g)
+          → (d : Bool) → goesBack (instanceAt m (byte rest 2)) (sampleIn rest) ≡ d
+          → Says
+          (cond a (Refused Cut) (cond b (cond c (cond d (Refused NotReadyAgain) (Hold (byte rest 2) (sampleIn rest))) (Refused BadSample)) (Refused Undeclared)))
+      go true e b f c g d h = inr (inr (inl (k, ltb-true (length rest) (markSize Measurement) e)))
+      go false e false f c g d h = (k, ltb-false (length rest) (markSize Measurement) e, known-tells m (byte rest 2) .no f)
+      go false e true f false g d h =
+          let there = known-tells m (byte rest 2) .yes f in
+          (k, ltb-false (length rest) (markSize Measurement) e, there, allowed-tells m (byte rest 2) (sampleIn rest) there .no g)
+      go false e true f true g true h =
+          let there = known-tells m (byte rest 2) .yes f in
+          let takes = allowed-tells m (byte rest 2) (sampleIn rest) there .yes g in
+          (k, ltb-false (length rest) (markSize Measurement) e, there, takes, back-tells (instanceAt m (byte rest 2)) (sampleIn rest) .yes h)
+      go false e true f true g false h = tt
 
   fr-says : FR rest → Says (frameAsked rest)
   unfolding frameAsked

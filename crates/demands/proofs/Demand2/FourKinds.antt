@@ -5,12 +5,12 @@ use Rattle.demands.proofs.Demand1.{number-exactly}
 use Rattle.demands.proofs.Shared.Marks.{MarkIs, fr-asked, in-asked, mark-is, sa-asked, tk-asked}
 use Rattle.demands.specs.Happenings.{Happening, asksFor}
 use Rattle.demands.specs.Numbers.{Front, NoneGiven, declares, frames, holds, passes}
-use Rattle.device.specs.Device.{allowed, known}
+use Rattle.device.specs.Device.{allowed, instanceAt, known}
 use Rattle.device.specs.declared.model.Model.{Model}
 use Rattle.judging.specs.Asked.{asked, declareAsked, frameAsked, sampleAsked, sampleIn, sizeOf, ticksAsked}
 use Rattle.judging.specs.declared.asked.Asked.the-variants.{Declare, Frame, Hold, Refused, Ticks}
 use Rattle.judging.specs.declared.asked.Asked.{Asked}
-use Rattle.judging.specs.declared.asked.Refusal.the-variants.{BadSample, Cut, LateOrSkipped, NoSuchSensor, NoTicks, TimeOver, Undeclared, UnknownMark}
+use Rattle.judging.specs.declared.asked.Refusal.the-variants.{BadSample, Cut, LateOrSkipped, NoSuchSensor, NoTicks, NotReadyAgain, TimeOver, Undeclared, UnknownMark}
 use Rattle.judging.specs.declared.asked.Refusal.{Refusal}
 use Rattle.record.specs.Log.{AllBytes}
 use Rattle.record.specs.Marks.{markOf, markSize}
@@ -18,6 +18,7 @@ use Rattle.record.specs.Numbers.{byte, word}
 use Rattle.record.specs.declared.marks.Mark.the-variants.{Bus, Declaration, Measurement, Time, Unknown}
 use Rattle.record.specs.declared.marks.Mark.{Mark}
 use Rattle.sensor.specs.Kind.{modelled}
+use Rattle.sensor.specs.Tick.{goesBack}
 use lib.Dec.{eqb, ltb}
 use lib.ListN.{length}
 use mathlib.Core.Bool.{Bool, cond, false, not, true, _&&_, _||_}
@@ -61,13 +62,15 @@ module _ (zs : List ℕ) (m : Model) (bytes : AllBytes zs) (none : NoneGiven zs 
   declare-asked false false true e = e
   declare-asked false false false e = absurd (never NoSuchSensor e)
 
-  hold-asked : (a b c : Bool)
-      → asked zs m ≡ cond a (Refused Cut) (cond b (cond c (Hold (byte zs 2) (sampleIn zs)) (Refused BadSample)) (Refused Undeclared))
+  hold-asked : (a b c d : Bool)
+      → asked zs m
+      ≡ cond a (Refused Cut) (cond b (cond c (cond d (Refused NotReadyAgain) (Hold (byte zs 2) (sampleIn zs))) (Refused BadSample)) (Refused Undeclared))
       → asked zs m ≡ Hold (byte zs 2) (sampleIn zs)
-  hold-asked true b c e = absurd (never Cut e)
-  hold-asked false true true e = e
-  hold-asked false true false e = absurd (never BadSample e)
-  hold-asked false false c e = absurd (never Undeclared e)
+  hold-asked true b c d e = absurd (never Cut e)
+  hold-asked false false c d e = absurd (never Undeclared e)
+  hold-asked false true false d e = absurd (never BadSample e)
+  hold-asked false true true true e = absurd (never NotReadyAgain e)
+  hold-asked false true true false e = e
 
   frame-asked : (a : Bool) → asked zs m ≡ cond a (Refused Cut) (Frame (byte zs 2) (byte zs 3) (byte zs 4))
       → asked zs m ≡ Frame (byte zs 2) (byte zs 3) (byte zs 4)
@@ -92,7 +95,8 @@ module _ (zs : List ℕ) (m : Model) (bytes : AllBytes zs) (none : NoneGiven zs 
       (ltb (byte zs 2) 16 && modelled (byte zs 3) (byte zs 4)) (in-asked zs m k))
   asks (holds k) =
       asks-for (Hold (byte zs 2) (sampleIn zs)) (omega arith)
-      (hold-asked (ltb (length zs) (markSize Measurement)) (known m (byte zs 2)) (allowed m (byte zs 2) (sampleIn zs)) (sa-asked zs m k))
+      (hold-asked (ltb (length zs) (markSize Measurement)) (known m (byte zs 2)) (allowed m (byte zs 2) (sampleIn zs))
+      (goesBack (instanceAt m (byte zs 2)) (sampleIn zs)) (sa-asked zs m k))
   asks (frames k) = asks-for (Frame (byte zs 2) (byte zs 3) (byte zs 4)) (omega arith) (frame-asked (ltb (length zs) (markSize Bus)) (fr-asked zs m k))
   asks (passes k) =
       asks-for (Ticks (word zs 2)) (omega arith)

@@ -6,7 +6,7 @@ use Rattle.demands.proofs.Shared.ByRecords.{by-records}
 use Rattle.demands.proofs.Shared.FirstRecord.{first-extended}
 use Rattle.demands.specs.Stands.{behind, roomAfter}
 use Rattle.device.specs.declared.model.Model.{Model}
-use Rattle.judging.proofs.Asking.{asked-size, refused-number}
+use Rattle.judging.proofs.Asking.{asked-size, refused-some}
 use Rattle.judging.specs.Asked.{asked, sizeOf}
 use Rattle.record.specs.Log.{Logged, bytesOf}
 use Rattle.session.proofs.Room.{nothing-left, room-behind}
@@ -38,5 +38,5 @@ in-turn m xs ys room whole =
     by-records (λ m xs room r. r .number ≡ 0 → session m (xs ++ ys) room ≡ Then room xs ys r)
     (λ m room z. ap (session m ys) (sym (nothing-left room)) ∙ sym (behind-nothing (session m ys (room - length (bytesOf [])))))
     (λ m xs room m′ log some e r ih z. first-extended m xs ys room some e ∙ ap (behind (sizeOf (asked xs m)) log) (ih z) ∙ then-behind m xs ys room log r)
-    (λ m xs room why t m′ log some e z. absurd (omega (arith, refused-number why)))
+    (λ m xs room why t m′ log some e z. absurd (omega (arith, refused-some why)))
     m xs room whole

@@ -1,7 +1,7 @@
 -- After a turn with another number than 9, what is unread is refused again, and nothing is carried out.
 -- Assumes nothing.
 use Prim.Native.Nat.{ℕ, _<_, _≤_}
-use Rattle.demands.proofs.Demand1.{numbers, offset-refused, offset-whole, refused-at, ticks-by-9}
+use Rattle.demands.proofs.Demand1.{offset-refused, offset-whole, refused-at, ticks-by-9}
 use Rattle.demands.proofs.Shared.ByRecords.{session-none, session-refused}
 use Rattle.demands.specs.Numbers.{LeftOff}
 use Rattle.device.specs.declared.model.Model.{Model}
@@ -22,7 +22,7 @@ use lib.Seq.{drop-length}
 use mathlib.Core.List.{List, [], append-nil, _++_}
 use mathlib.Core.Logic.{inl, inr, _≢_, _⊎_}
 use mathlib.Core.Path.{ap, refl, sym, _∙_, _≡_}
-use native.Mathlib.Decide.{decLe}
+use native.Mathlib.Decide.{decLe, ℕ-discrete}
 use native.Mathlib.Omega.{arith}
 
 pub record Still (m : Model) (xs : List ℕ) (number : ℕ) : Type 0 where
@@ -69,12 +69,10 @@ module _ (m : Model) (xs : List ℕ) (room : ℕ) where
   -- what a reading leaves unread
   pub still : Still (e .model) (unread e xs) (e .number)
   unfolding nextAfter numberOf
-  still = by (decLe 1 (e .number)) (decLe 9 (e .number))
+  still = by (decLe 1 (e .number)) (ℕ-discrete (e .number) 9)
     where
-      by : Dec (1 ≤ e .number) → Dec (9 ≤ e .number) → Still (e .model) (unread e xs) (e .number)
-      by h (yes k) =
-          let nine : e .number ≡ 9 = omega (arith, numbers m xs room) in
-          record { alone = λ n. absurd (n nine); final = λ o. absurd (not-after 9 (e .number) o (λ z. omega arith) nine) }
+      by : Dec (1 ≤ e .number) → Dec (e .number ≡ 9) → Still (e .model) (unread e xs) (e .number)
+      by h (yes nine) = record { alone = λ n. absurd (n nine); final = λ o. absurd (not-after 9 (e .number) o (λ z. omega arith) nine) }
       by (no h) (no k) =
           let zero : e .number ≡ 0 = omega arith in
           rw (unread-there (λ n. omega arith), offset-whole m xs room zero, drop-length xs, zero) (still-none (e .model))
@@ -90,4 +88,4 @@ module _ (m : Model) (xs : List ℕ) (room : ℕ) where
               at (inl (a, same)) =
                   rw (unread-there (λ n. omega arith), l .numbered)
                   (still-refused (e .model) rest (l .why) (rw length-drop (omega (arith, offset-refused m xs room h))) (ap (asked rest) same ∙ a))
-              at (inr full) = absurd (omega (arith, l .numbered, ap numberOf full))
+              at (inr full) = absurd (k (l .numbered ∙ ap numberOf full))

@@ -50,8 +50,8 @@ module _ (m : Model) (xs : List ℕ) (room : ℕ) (few : length (m .instances) �
       by-kinds (λ a. step a room m [] ≡ refused why t m′ log → numberOf why ≡ 9 → 0 < t) xs m refuse
       (λ e n. absurd (taken≢refused e)) (λ e n. absurd (taken≢refused e)) (answer (byte xs 2) (byte xs 3) (byte xs 4)) (λ h e n. tick-some (word xs 2) e)
     where
-      refuse : (w : Refusal) → numberOf w < 9 → step (Refused w) room m [] ≡ refused why t m′ log → numberOf why ≡ 9 → 0 < t
-      refuse w below e n = let same : w ≡ why = cc in absurd (omega (arith, ap numberOf same))
+      refuse : (w : Refusal) → numberOf w ≢ 9 → step (Refused w) room m [] ≡ refused why t m′ log → numberOf why ≡ 9 → 0 < t
+      refuse w other e n = let same : w ≡ why = cc in absurd (other (ap numberOf same ∙ n))
 
       answer : (a b c : ℕ) → step (Frame a b c) room m [] ≡ refused why t m′ log → numberOf why ≡ 9 → 0 < t
       answer a b c e n = absurd (omega (arith, full-answer a b c room m [] e, frame-most m a b c, nothing-left room))
