@@ -2,14 +2,8 @@
 # Writes the sessions of this folder, record by record.
 #   examples/make.sh [FOLDER]     into FOLDER, or where this script is
 set -eu
+. "$(dirname "$0")/records.sh"
 cd "${1:-$(dirname "$0")}"
-
-# ---- the records; numbers are decimal, or hexadecimal with 0x
-bytes() { for b in "$@"; do printf "\\$(printf %03o "$b")"; done; }
-IN() { printf IN && bytes "$1" "$2" "$3"; }                                               # instance, type, resolution
-SA() { printf SA && bytes "$1" "$2" $(($3 / 65536)) $(($3 / 256 % 256)) $(($3 % 256)); }  # instance, status, value
-FR() { printf FR && bytes "0x$1" "0x$2" "0x$3"; }                                         # the three frame bytes, in hex as in the standards
-TK() { printf TK && bytes $(($1 / 256)) $(($1 % 256)); }                                  # tick count
 
 occupancy=3 light=4
 valid=0 unready=1 failed=2
@@ -98,11 +92,11 @@ refused_5() { IN 0 $light 8 && SA 1 $valid 100; }                # only instance
 refused_6() { IN 0 $light 8 && SA 0 $valid 255; }                # 8 bits: 0 to 254
 refused_7() { IN 0 $light 8 && SA 0 $valid 100 && TK 1 && TK 0; }  # no ticks; what came before is logged
 
-# 65,537 times 65,535 ticks, to the last number there is, 4,294,967,295; and one tick more
+# to the last tick number that there is, which is 65,537 records; and one tick more
 refused_8() {
     IN 0 $light 8
     FR 01 00 63  # its events are switched off
-    yes "$(TK 65535)" | head -n 65537 | LC_ALL=C tr -d '\n'
+    TK 4294967295
     FR 01 00 83  # its status, at the last tick: not enabled
     TK 1
 }

@@ -1,0 +1,58 @@
+# Writes the records of a session by hand. To be sourced, in a script or at a prompt:
+#   . examples/records.sh
+#   { IN 0 4 8; SA 0 0 100; TK 72000; FR 01 00 8C; } >my.session
+#
+#   IN INSTANCE TYPE RESOLUTION    declares an instance: type 3, occupancy, with resolution 2; type 4, light, with 1 to 24
+#   SA INSTANCE STATUS VALUE       what it measures from now on: status 0 valid; 1 not ready and 2 failed, with value 0
+#   FR BYTE1 BYTE2 BYTE3           a frame, its bytes in hexadecimal, as in the standards
+#   TK TICKS                       so many ticks of 50 ms, up to 4294967295: a record for each 65535 of them, and one for the rest
+#
+# Numbers are decimal, or hexadecimal with 0x. What does not fit in its bytes is refused: that is said on standard error, the status is 2, and
+# nothing of the record is written. What fits is written: whether the model takes it, the model says.
+
+# record_number MOST TEXT: TEXT is a number, MOST at most
+record_number() {
+    case $2 in
+    0x*) case ${2#0x} in '' | *[!0-9A-Fa-f]* | ?????????*) return 1 ;; esac ;;
+    0 | [1-9]*) case $2 in *[!0-9]* | ???????????*) return 1 ;; esac ;;
+    *) return 1 ;;
+    esac
+    [ "$(($2))" -le "$1" ]
+}
+
+# record_fits WHAT COUNT MOST NUMBER [MOST NUMBER]...: COUNT is how many there are, and each is at most the MOST before it
+record_fits() {
+    record_what=$1
+    if [ $# -ne $((2 + 2 * $2)) ]; then
+        echo "$record_what: $(($# / 2 - 1)) numbers are needed, and there are $2" >&2
+        return 2
+    fi
+    shift 2
+    while [ $# -gt 0 ]; do
+        record_number "$1" "$2" || { echo "$record_what: '$2' is no number from 0 to $1" >&2; return 2; }
+        shift 2
+    done
+}
+
+record_bytes() { for record_byte in "$@"; do printf "\\$(printf %03o "$record_byte")"; done; }
+
+IN() {
+    record_fits "IN $*" $# 255 "${1-}" 255 "${2-}" 255 "${3-}" || return
+    printf IN && record_bytes "$1" "$2" "$3"
+}
+
+SA() {
+    record_fits "SA $*" $# 255 "${1-}" 255 "${2-}" 16777215 "${3-}" || return
+    printf SA && record_bytes "$1" "$2" $(($3 / 65536)) $(($3 / 256 % 256)) $(($3 % 256))
+}
+
+FR() {
+    record_fits "FR $*" $# 255 "0x${1-}" 255 "0x${2-}" 255 "0x${3-}" || return
+    printf FR && record_bytes "0x$1" "0x$2" "0x$3"
+}
+
+TK() {
+    record_fits "TK $*" $# 4294967295 "${1-}" || return
+    [ $(($1)) -lt 65535 ] || yes "$(printf 'TK\377\377')" | head -n $(($1 / 65535)) | LC_ALL=C tr -d '\n'
+    [ $(($1)) -gt 0 ] && [ $(($1 % 65535)) -eq 0 ] || { printf TK && record_bytes $(($1 % 65535 / 256)) $(($1 % 65535 % 256)); }
+}
