@@ -1,8 +1,132 @@
-/* Potmeander: a model of a DALI-2 input device with up to 16 sensor instances (IEC 62386-303 and -304), for a bench controller.
+/* Potmeander: a model of a DALI-2 input device with up to 16 sensor instances (IEC 62386-303, occupancy, and -304, light), for a bench
+ * controller.
  *
- * The library has one call. It reads a whole session from a fresh model and writes what the device would have logged. It keeps
- * nothing from one call to the next, allocates nothing, and calls nothing but memcpy. Any bytes may be given as a session: the call
- * always returns, and it never reads past the session nor writes past the log.
+ * The library has one call. It reads a whole session, what the device is given, from a fresh model, and writes the log, what the device must
+ * send and answer. Any bytes may be given as a session: the call always returns, it reads nothing outside the session, and it writes nothing
+ * outside the log.
+ *
+ * This page is the manual: 1 the archive, 2 a session, 3 frames, 4 when an event goes out, 5 a log, 6 an example, 7 the numbers, 8 the call.
+ *
+ *
+ * 1. THE ARCHIVE
+ *
+ * `rt staticlib session` proves the library and makes target/staticlib/libsession.a, for x86-64 (System V ABI), with one exported function:
+ * `cc controller.c libsession.a`. It needs memcpy and nothing else of a C library. It has no variables: nothing is kept from one call to the
+ * next, and calls in several threads do not know of each other, as long as they share no log. It allocates nothing. A call uses less than
+ * 8 KiB of stack (6,377 bytes were measured), beside what a memcpy that is bound at its first call takes there. A tick takes about a
+ * microsecond where 16 instances send, and about a thousandth of that where none does (docs/COST.md). The header serves C99 and later, and C++.
+ *
+ *
+ * 2. A SESSION
+ *
+ * A row of records, one behind the other. Each begins with two ASCII letters, its mark. A field is one byte, or as many as are given behind
+ * it, the most significant one first.
+ *
+ *   mark                                    bytes
+ *   IN  instance  type  resolution            5    declares an instance
+ *   SA  instance  status  value (3)           7    what it measures from now on
+ *   FR  byte1  byte2  byte3                   5    a frame on the bus
+ *   TK  count (2)                             4    1 to 65,535 ticks of 50 ms pass
+ *
+ * IN  stands before all other records. Instances are numbered 0, 1, 2, .. in the order of their declarations; there are 16 at most, or none.
+ *       type 3, occupancy (presence-based): resolution 2
+ *       type 4, light: resolution 1 to 24, the bits of a measured value
+ *
+ * SA  replaces the sample that the instance holds, and does no more: it shows from the next tick on, and until then queries answer as before.
+ *       status              value, light               value, occupancy
+ *       0  valid            0 to 2^resolution - 2      0 to 3: bit 0 movement, bit 1 occupied
+ *       1  not ready        0; only before the         not allowed
+ *                           first SA with status 0
+ *       2  failure          0                          0
+ *     Before its first sample light counts as not ready, and occupancy as valid with value 0.
+ *
+ * FR  acts at once, on what the last tick left (part 3).
+ *
+ * TK  lets ticks pass. The first tick of a session is number 1, the last that may be reached 4,294,967,295. More than 65,535 ticks are several
+ *     records.
+ *
+ *
+ * 3. FRAMES. Frame bytes, opcodes and answers are in hexadecimal, all other numbers in decimal.
+ *
+ *   C1 30 d          loads d into DTR0, which all instances share; it is 0 at the start
+ *   01 i opcode      for instance i; FF in place of 01 does the same
+ * Any other frame, one for an instance that is not declared, and an opcode that the type does not have, is taken and does nothing.
+ *
+ *   set from DTR0    light   occupancy   unit, or what is taken               at the start: light   occupancy
+ *   report             30       22       20 ticks (1 s); 0: no reports                         30         20
+ *   deadtime           32       23       1 tick; 0: none                                       30          2
+ *   hysteresis         31        -       percent; above 25: no change                           5          -
+ *   hysteresisMin      33        -       steps of the measured value                   see below          -
+ *   filter             68       68       the bits that the type has; others are dropped         1          3
+ *   priority           61       61       2 to 5, else no change                                 4          4
+ *   enable             62       62       DTR0 does not matter                             enabled    enabled
+ *   disable            63       63       DTR0 does not matter
+ * hysteresisMin starts as 2^resolution / 100, rounded down, and 255 at most. Filter bits of light: bit 0, its events. Of occupancy: bit 0
+ * Occupied, 1 Vacant, 2 Repeat, 3 Movement, 4 No movement.
+ *   A new report or deadtime serves from the next start of its timer, but for these: report 0 stops the report timer at once, and a report
+ * that was due no longer is; a report above 0 starts it at once where it was stopped; deadtime 0 ends a running dead time at once.
+ *
+ *   query            light   occupancy   answer, one byte
+ *   type               80       80       04, or 03
+ *   resolution         81       81
+ *   error              82       82       01 in a failure, else none
+ *   status             83       83       bit 0 failure, bit 1 enabled
+ *   priority           84       84       this and the next five: as they were set, or at the start
+ *   filter             90       90
+ *   deadtime           3D       2C
+ *   report             3E       2E
+ *   hysteresis         3F        -
+ *   hysteresisMin      3C        -
+ *   enabled            86       86       FF, or none
+ *   input value        8C       8C       its first byte; the rest is kept for 8D of that instance, up to its next 8C
+ *   its next byte      8D       8D       none where nothing is left
+ * The input value has the least bytes that hold the resolution. Its bits, from the top, are those of the measured value from the top, again and
+ * again: bit j is bit (j mod resolution). Light that is not ready or failed has all bits 1. Occupancy has 00, 55, AA, FF for 0 to 3, and in
+ * a failure the value from before it.
+ *
+ *
+ * 4. WHEN AN EVENT GOES OUT
+ *
+ * At a tick the timers fall by one, whatever the instance does. Then each instance, in rising number, takes its held sample and sends one event
+ * or none: none in dead time, while disabled, and while not ready or failed. An event at tick t starts dead time, so that the next may go
+ * out at t + deadtime, and the report timer, unless report is 0. The report timer runs from the declaration on, and whenever it starts it takes
+ * report or deadtime, whichever is longer. A report that is due stays due until an event, or until report is set to 0.
+ *   Light, if its filter bit is set, sends where a report is due; and, with hysteresis above 0, where the value v is above its band, below it, or
+ * there is no band. At any event, a report too: without a band, or with v above it, the band becomes v - width (0 at least) to v; with v below
+ * it, v to v + width; else it stays. Both ends belong to the band. The width is v x hysteresis / 100, rounded down, or hysteresisMin if that
+ * is more. Not ready and failure discard the band.
+ *   Occupancy compares each valid value with the valid one before it, at first with 0: Occupied and Vacant where bit 1 rose or fell, Movement and
+ * No movement where bit 0 did. Such a trigger waits, if its filter bit is set and the instance enabled when it comes. One event clears all that
+ * wait, opposite ones too; so do disabling and a failure, and a new filter drops those it does not allow. An event goes out where one waits, or
+ * where a report is due and filter bit 2 is set.
+ *
+ *
+ * 5. A LOG
+ *
+ * A row of records, in the order in which they came; fields as in a session.
+ *
+ *   mark                                                    bytes
+ *   EV  tick (4)  instance  priority  information (2)        10    the instance sent an event
+ *   AN  tick (4)  instance  answer                            8    the instance answered a query
+ *
+ * `tick` is the tick number: of an event the tick that sent it, of an answer the last one before its frame.
+ * `priority` is 5 where a due report is all that asked for the event, and else the instance's.
+ * `information` is of the value at that tick. Of light it is ten bits by the rule of the input value: at resolution 10 and above the top ten
+ * bits, below that the bits again and again. Of occupancy: bit 0 movement, bit 1 occupied, bit 2 set where a due report is all that asked.
+ *
+ *
+ * 6. AN EXAMPLE (tests/controller.c runs it)
+ *
+ *   49 4E 00 04 08              IN  instance 0 is light with resolution 8
+ *   53 41 00 00 00 00 64        SA  it measures 100
+ *   54 4B 00 01                 TK  one tick: it has no band, and sends. The band is 95 to 100
+ *   53 41 00 00 00 00 5E        SA  it measures 94, below the band
+ *   54 4B 00 28                 TK  40 ticks: dead time ends at tick 31, where it sends
+ *   46 52 01 00 8C              FR  its input value is asked for
+ * gives
+ *   45 56 00 00 00 01 00 04 01 91      EV  tick 1, instance 0, priority 4, information 0x191: 100 in ten bits
+ *   45 56 00 00 00 1F 00 04 01 79      EV  tick 31
+ *   41 4E 00 00 00 29 00 5E            AN  tick 41: 94
  */
 #ifndef POTMEANDER_H
 #define POTMEANDER_H
@@ -14,17 +138,19 @@
 extern "C" {
 #endif
 
-/* The numbers by which a record is not taken. A session with a record that is not taken is read up to that record. */
+/* 7. THE NUMBERS by which a record is not taken; there are no others. The session is read up to that record. It changes nothing and writes
+ * nothing, and what was logged before it stands; by 9 a TK is refused at a tick, and the ticks before that stand. First it is judged whether there is a mark (2), then whether it is known (1), then whether the
+ * record is whole (2), then the record's own numbers, the lowest first. */
 enum {
     POTMEANDER_TAKEN = 0,           /* all records were taken; an empty session too */
     POTMEANDER_UNKNOWN_MARK = 1,    /* the mark is none of IN, SA, FR, TK */
     POTMEANDER_CUT = 2,             /* fewer bytes remain than the mark, or the record, needs */
     POTMEANDER_LATE_OR_SKIPPED = 3, /* IN after a record of another kind, or its number is not the next, from 0 */
-    POTMEANDER_NO_SUCH_SENSOR = 4,  /* IN: number 16 or above, or a type and resolution that are not modelled */
+    POTMEANDER_NO_SUCH_SENSOR = 4,  /* IN: number 16, after 16 others, or a type and resolution that are not modelled */
     POTMEANDER_UNDECLARED = 5,      /* SA for an instance that was not declared */
     POTMEANDER_BAD_SAMPLE = 6,      /* SA: a status or a value that the type does not allow */
     POTMEANDER_NO_TICKS = 7,        /* TK with count 0 */
-    POTMEANDER_TIME_OVER = 8,       /* TK: the tick number would pass 4,294,967,295 */
+    POTMEANDER_TIME_OVER = 8,       /* TK: the tick number would pass 4,294,967,295; the whole TK is not taken */
     POTMEANDER_FULL = 9,            /* the records of one tick, or one answer, do not fit in what is left of the log */
     POTMEANDER_NOT_READY_AGAIN = 13 /* SA: status 1, not ready, for an instance that has had a valid sample (status 0, taken) */
 };
@@ -33,28 +159,23 @@ enum {
 typedef struct {
     uint64_t number;  /* one of the numbers above */
     uint64_t offset;  /* where the refused record begins in the session; for number 0 the session's length */
-    uint64_t written; /* bytes of log written, from log[0] on */
+    uint64_t written; /* bytes of log written, from log[0] on: whole records */
     uint64_t ticks;   /* for number 9 inside a TK: the ticks of that TK that were carried out; else 0 */
 } potmeander_reading;
 
-/* Reads the session from a fresh model.
+/* 8. THE CALL reads the session from a fresh model.
  *
- * session      session_len bytes, read only. It is the caller's, before and after.
- * log          log_len bytes, the caller's. The first `written` of them are overwritten with whole log records; each byte after
- *              those keeps what it held.
- * The two must not overlap. Either may be empty; a pointer must not be null even then.
+ * session    session_len bytes, read only
+ * log        log_len bytes: the first `written` of them become the log, each byte behind those keeps what it held
+ * Both are the caller's before and after, and must not overlap. Either may be empty: with length 0 a pointer may be null.
  *
- * A session is a row of records, each with a mark of two ASCII letters; numbers are most significant byte first:
- *   IN instance type resolution             declares an instance: type 3 occupancy, type 4 light
- *   SA instance status value(3)             what the sensor measures from now on; status 0 valid, 1 not ready, 2 failure
- *   FR byte1 byte2 byte3                    a frame on the bus
- *   TK count(2)                             so many ticks of 50 ms pass
- * The log is a row of records:
- *   EV tick(4) instance priority information(2)     the instance sent an event
- *   AN tick(4) instance answer                      the instance answered a query
+ * How much room: ten bytes for each instance and tick and eight for each query are always enough, and far more than most sessions need, since
+ * no instance sends twice within its deadtime. Light as declared sends once in 30 ticks at most: 16 of them need 384,000 bytes for an hour
+ * of 72,000 ticks, and 19,200 bytes where no value leaves its band.
  *
- * A refused record changes nothing and writes nothing. Number 9 comes per tick: the ticks of the TK before it stand, with their
- * log, and the tick that found no room does nothing.
+ * After 9, for want of room: the records that are in the log are right, and of a TK `ticks` ticks stand with them; the tick, or the query, that
+ * found no room did nothing. Nothing was kept, so call again with the whole session and more room; the log begins with the same bytes. A session
+ * whose log is longer than any room is for the program ./potmeander, which goes on where the room ends.
  */
 potmeander_reading potmeander_session(const uint8_t *session, size_t session_len, uint8_t *log, size_t log_len);
 
