@@ -81,7 +81,7 @@ fn write_failure(lost: u64) {
     if lost > 0 {
         write(b"; writing the log failed, ");
         so_many(lost, b" byte");
-        write(b" of it lost");
+        write(b" of it lost, and the session was not read further");
     }
 }
 
