@@ -1,14 +1,15 @@
 # Writes the records of a session by hand. To be sourced, in a script or at a prompt:
 #   . examples/records.sh
-#   { IN 0 4 8; SA 0 0 100; TK 72000; FR 01 00 8C; } >my.session
+#   { IN 0 4 8 && SA 0 0 100 && TK 72000 && FR 01 00 8C; } >my.session
 #
 #   IN INSTANCE TYPE RESOLUTION    declares an instance: type 3, occupancy, with resolution 2; type 4, light, with 1 to 24
 #   SA INSTANCE STATUS VALUE       what it measures from now on: status 0 valid; 1 not ready and 2 failed, with value 0
 #   FR BYTE1 BYTE2 BYTE3           a frame, its bytes in hexadecimal, as in the standards
 #   TK TICKS                       so many ticks of 50 ms, up to 4294967295: a record for each 65535 of them, and one for the rest
 #
-# Numbers are decimal, or hexadecimal with 0x. What does not fit in its bytes is refused: that is said on standard error, the status is 2, and
-# nothing of the record is written. What fits is written: whether the model takes it, the model says.
+# Numbers are decimal without leading zeros, or hexadecimal with 0x, which FR may do without. What does not fit in its bytes is refused: that is said
+# on standard error, the status is 2, and nothing of the record is written; `&&`, or `set -e` in a script, keeps the rest from being written without
+# it. What fits is written: whether the model takes it, the model says.
 
 # record_number MOST TEXT: TEXT is a number, MOST at most
 record_number() {
@@ -24,7 +25,7 @@ record_number() {
 record_fits() {
     record_what=$1
     if [ $# -ne $((2 + 2 * $2)) ]; then
-        echo "$record_what: $(($# / 2 - 1)) numbers are needed, and there are $2" >&2
+        echo "$record_what: numbers needed: $(($# / 2 - 1)), given: $2" >&2
         return 2
     fi
     shift 2
@@ -47,8 +48,9 @@ SA() {
 }
 
 FR() {
-    record_fits "FR $*" $# 255 "0x${1-}" 255 "0x${2-}" 255 "0x${3-}" || return
-    printf FR && record_bytes "0x$1" "0x$2" "0x$3"
+    [ $# -ne 3 ] || set -- "0x${1#0x}" "0x${2#0x}" "0x${3#0x}"
+    record_fits "FR $*" $# 255 "${1-}" 255 "${2-}" 255 "${3-}" || return
+    printf FR && record_bytes "$1" "$2" "$3"
 }
 
 TK() {

@@ -14,7 +14,7 @@ mkdir "$TMPDIR"
 # What is given to the launcher by RATTLE_HOME
 kit_with 'echo "rt: promise proved (0 s)"' 'mkdir -p target/bin' "cp '$PWD/target/bin/potmeander' target/bin" && proving=$kit
 kit_with 'echo "rt: sensor NOT PROVED (exit 1, 0 s)"' 'exit 1' && failing=$kit
-kit_with "while sleep 0.1; do echo >>'$room/proving'; done" && slow=$kit
+kit_with 'mktemp >/dev/null' "while sleep 0.1; do echo >>'$room/proving'; done" && slow=$kit
 
 # expect STATUS TEXT [ARGUMENT...]: the status, and words that were said, or written; `path` is the launcher's
 path=$PATH
@@ -34,12 +34,16 @@ expect 0 'the session was taken whole, and its log was written whole' --help
 expect 0 'commit  not known' --version
 expect 0 "sources sha256 $(cd "$clone" && find crates.txt crates -type f -exec sha256sum {} + | LC_ALL=C sort -k 2 | sha256sum | cut -d ' ' -f 1)" --version
 expect 0 "kit     $(rt version)" --version
+expect 0 'potmeander, not proved and built yet' --version
+status=0
+"$clone/potmeander" --help >&- 2>/dev/null || status=$?
+[ "$status" -eq 3 ] || fail "--help that is not written: status $status"
 expect 2 'not a call: session.bin' session.bin
 expect 2 'not a call: --help me' --help me
 
 # ---- kits: none; none where RATTLE_HOME says; a folder that has one, with no rt on the path
 mkdir "$room/bin"
-for tool in sh cat cp cut dirname find flock mkdir mkfifo mktemp mv readlink rm sed setsid sha256sum sort tail uname; do
+for tool in sh cat chmod cp cut dirname find flock mkdir mkfifo mktemp mv readlink rm sed setsid sha256sum sort tail uname; do
     ln -s "$(command -v "$tool")" "$room/bin/$tool"
 done
 path=$room/bin
@@ -64,6 +68,7 @@ expect 0 'potmeander: proved and built'
 expect 0 "$said"
 path=$PATH
 [ "$(cat "$room/said")" = "$said" ] || fail "a built program: $(cat "$room/said")"
+expect 0 'potmeander, proved and built' --version
 # nothing that the gate meets: it removes target/, and takes each source outside of crates/ for one that is not proved
 [ ! -e "$clone/target" ] || fail 'target/ is the gate'\''s'
 [ -z "$(find "$clone/build" -name '*.rt' -o -name '*.antt')" ] || fail 'sources are left in build/'

@@ -32,7 +32,7 @@ wait "$one" || fail "the first of two: $(cat "$room/one.said")"
 full='6 records, 32 bytes read; 41 ticks'
 crates=$(sed -n 's/^potmeander: proving and building the program, \([0-9]*\) crates, .*/\1/p' "$room/one.said")
 [ "$(grep -c "^potmeander: proved [0-9]* of $crates: " "$room/one.said")" -eq "$crates" ] || fail "not a line for each crate: $(cat "$room/one.said")"
-[ "$(cat "$room/two.said")" = "potmeander: another run is proving and building the program: waiting for it
+[ "$(cat "$room/two.said")" = "potmeander: another run is proving and building the program: waiting for it; what the kit says is in $clone/build/proof.log
 potmeander: $full; 28 bytes logged" ] || fail "the second of two: $(cat "$room/two.said")"
 cmp examples/full.log "$room/one.log"
 cmp examples/full.log "$room/two.log"

@@ -31,6 +31,7 @@ writes 494effffff IN 255 0xFF 0xff
 writes 5341000000fffe SA 0 0 65534
 writes 53410102ffffff SA 1 2 16777215
 writes 4652010a8c FR 01 A 8c
+writes 4652c13007 FR 0xC1 0x30 0x07
 writes 544b0000 TK 0
 writes 544bffff TK 65535
 writes 544bffff544b0001 TK 65536
@@ -45,6 +46,7 @@ refuses IN 0 four 8
 refuses SA 256 0 0
 refuses SA 0 0 16777216
 refuses SA 0 0 0x1000000
+refuses FR 01 00
 refuses FR 01 00 18C
 refuses FR 01 00 8G
 refuses FR 01 00 ''
@@ -55,4 +57,4 @@ refuses TK 010
 refuses TK 1.5
 refuses TK 4294967296
 refuses TK 18446744073709551617
-echo 'records by hand: 11 written, 17 refused'
+echo 'records by hand: 12 written, 18 refused'
