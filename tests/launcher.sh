@@ -14,7 +14,7 @@ mkdir "$TMPDIR"
 # What is given to the launcher by RATTLE_HOME
 kit_with 'echo "rt: promise proved (0 s)"' 'mkdir -p target/bin' "cp '$PWD/target/bin/potmeander' target/bin" && proving=$kit
 kit_with 'echo "rt: sensor NOT PROVED (exit 1, 0 s)"' 'exit 1' && failing=$kit
-kit_with 'mktemp >/dev/null' "while sleep 0.1; do echo >>'$room/proving'; done" && slow=$kit
+kit_with 'mktemp >/dev/null' "while sleep 0.1 && echo >>'$room/proving'; do :; done" && slow=$kit
 
 # expect STATUS TEXT [ARGUMENT...]: the status, and words that were said, or written; `path` is the launcher's
 path=$PATH
@@ -24,6 +24,15 @@ expect() {
     PATH=$path "$clone/potmeander" "$@" <examples/full.session >"$room/log" 2>"$room/said" || status=$?
     [ "$status" -eq "$want" ] || fail "'$text': status $status and not $want: $(cat "$room/said")"
     cat "$room/said" "$room/log" | grep -aqF -e "$text" || fail "not '$text' but: $(cat "$room/said" "$room/log")"
+}
+
+# comes FILE: waits, a minute at most, until there is something in $room/FILE
+comes() {
+    for _ in $(seq 600); do
+        [ ! -s "$room/$1" ] || return 0
+        sleep 0.1
+    done
+    fail "nothing came to $1"
 }
 
 said='potmeander: 6 records, 32 bytes read; 41 ticks; 28 bytes logged'
@@ -102,15 +111,15 @@ done
 mkfifo "$room/hold"
 c_run "$built/terminal" <"$room/hold" >"$room/terminal" &
 exec 8>"$room/hold"
-until [ -s "$room/terminal" ]; do sleep 0.1; done
-"$clone/potmeander" <"$(cat "$room/terminal")" 2>"$room/said"
+comes terminal
+"$clone/potmeander" <"$(cat "$room/terminal")" 2>"$room/said" || fail "a terminal: status $?: $(cat "$room/said")"
 exec 8>&-
 grep -q 'reading a session from this terminal, until Ctrl-D' "$room/said" || fail "a terminal: $(cat "$room/said")"
 
 # ---- interrupts. The session comes from `live`, which then waits until it is told to end
 live() {
     cat examples/full.session
-    until [ -e "$room/over" ]; do sleep 0.1; done
+    while [ -d "$room" ] && [ ! -e "$room/over" ]; do sleep 0.1; done
 }
 
 mkfifo "$room/live"
@@ -121,7 +130,7 @@ runs_live() {
     live >"$room/live" &
     "$clone/potmeander" <"$room/live" >"$room/log" 2>"$room/said" &
     launcher=$!
-    until [ -s "$room/log" ]; do sleep 0.1; done
+    comes log
 }
 
 # interrupted TEXT: the launcher was ended by the signal, and said that
@@ -149,7 +158,7 @@ export RATTLE_HOME="$slow"
 echo '// changed' >>"$source"
 "$clone/potmeander" <examples/full.session >"$room/log" 2>"$room/said" &
 launcher=$!
-until [ -s "$room/proving" ]; do sleep 0.1; done
+comes proving
 kill -s TERM "$launcher"
 interrupted '^potmeander: interrupted; nothing was read$'
 sleep 0.5
