@@ -2,6 +2,7 @@
 # Writes the sessions of this folder, record by record.
 #   examples/make.sh [FOLDER]     into FOLDER, or where this script is
 set -eu
+unset CDPATH
 . "$(dirname "$0")/records.sh"
 cd "${1:-$(dirname "$0")}"
 

@@ -55,6 +55,8 @@ FR() {
 
 TK() {
     record_fits "TK $*" $# 4294967295 "${1-}" || return
-    [ $(($1)) -lt 65535 ] || yes "$(printf 'TK\377\377')" | head -n $(($1 / 65535)) | LC_ALL=C tr -d '\n'
+    if [ $(($1)) -ge 65535 ]; then
+        { yes "$(printf 'TK\377\377')" 2>/dev/null || :; } | head -n $(($1 / 65535)) | LC_ALL=C tr -d '\n' || return
+    fi
     [ $(($1)) -gt 0 ] && [ $(($1 % 65535)) -eq 0 ] || { printf TK && record_bytes $(($1 % 65535 / 256)) $(($1 % 65535 % 256)); }
 }

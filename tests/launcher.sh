@@ -5,15 +5,19 @@ set -eu
 cd "$(dirname "$0")/.."
 . tests/lib/build.sh
 rt check potmeander >target/program.log || { cat target/program.log >&2; exit 1; }
-c_object "$built/terminal.o" tests/lib/terminal.c
-c_program "$built/terminal" "$built/terminal.o"
+for tool in terminal odd; do
+    c_object "$built/$tool.o" "tests/lib/$tool.c"
+    c_program "$built/$tool" "$built/$tool.o"
+done
 . tests/lib/clone.sh
 export TMPDIR="$room/tmp"
 mkdir "$TMPDIR"
 
-# What is given to the launcher by RATTLE_HOME
-kit_with 'echo "rt: promise proved (0 s)"' 'mkdir -p target/bin' "cp '$PWD/target/bin/potmeander' target/bin" && proving=$kit
-kit_with 'echo "rt: sensor NOT PROVED (exit 1, 0 s)"' 'exit 1' && failing=$kit
+# Kits, to be given by RATTLE_HOME: one that proves; one that fails, though it leaves a program; one that makes another program; one that is slow
+into_place() { printf 'mkdir -p target/bin && cp %s target/bin/potmeander' "'$PWD/$1'"; }
+kit_with 'echo "rt: promise proved (0 s)"' "$(into_place target/bin/potmeander)" && proving=$kit
+kit_with 'echo "rt: sensor NOT PROVED (exit 1, 0 s)"' "$(into_place target/bin/potmeander)" 'exit 1' && failing=$kit
+kit_with "$(into_place "$built/odd")" && odd=$kit
 kit_with 'mktemp >/dev/null' "while sleep 0.1 && echo >>'$room/proving'; do :; done" && slow=$kit
 
 # expect STATUS TEXT [ARGUMENT...]: the status, and words that were said, or written; `path` is the launcher's
@@ -35,22 +39,31 @@ comes() {
     fail "nothing came to $1"
 }
 
+# A source that is not what it was, with an old date
+changed=$clone/crates/potmeander/src/saying.rt
+change() {
+    echo '// changed' >>"$changed"
+    touch -d 2001-01-01 "$changed"
+}
+
 said='potmeander: 6 records, 32 bytes read; 41 ticks; 28 bytes logged'
 
 # ---- calls
 export RATTLE_HOME="$proving"
 expect 0 'the session was taken whole, and its log was written whole' --help
+expect 0 'potmeander, not proved and built yet' --version
 expect 0 'commit  not known' --version
 expect 0 "sources sha256 $(cd "$clone" && find crates.txt crates -type f -exec sha256sum {} + | LC_ALL=C sort -k 2 | sha256sum | cut -d ' ' -f 1)" --version
 expect 0 "kit     $(rt version)" --version
-expect 0 'potmeander, not proved and built yet' --version
-status=0
-"$clone/potmeander" --help >&- 2>/dev/null || status=$?
-[ "$status" -eq 3 ] || fail "--help that is not written: status $status"
 expect 2 'not a call: session.bin' session.bin
 expect 2 'not a call: --help me' --help me
+for call in --help --version; do
+    status=0
+    "$clone/potmeander" $call <examples/full.session >&- 2>/dev/null || status=$?
+    [ "$status" -eq 3 ] || fail "$call that is not written: status $status"
+done
 
-# ---- kits: none; none where RATTLE_HOME says; a folder that has one, with no rt on the path
+# ---- kits: none; none where RATTLE_HOME says
 mkdir "$room/bin"
 for tool in sh cat chmod cp cut dirname find flock mkdir mkfifo mktemp mv readlink rm sed setsid sha256sum sort tail uname; do
     ln -s "$(command -v "$tool")" "$room/bin/$tool"
@@ -63,7 +76,7 @@ expect 2 "RATTLE_HOME is $room/nowhere, and no kit is there"
 export RATTLE_HOME="$room"
 expect 2 "RATTLE_HOME is $room, and no kit is there"
 
-# ---- where there is no program yet: a folder that cannot be written, a proof that fails, a proof
+# ---- where there is no program yet: a folder that cannot be written, a proof that fails, a proof by the kit of the path
 export RATTLE_HOME="$failing"
 : >"$clone/build"
 expect 2 'the folder build cannot be written'
@@ -72,8 +85,11 @@ mkdir "$clone/build" && echo stale >"$clone/build/proof.log"
 expect 2 'the program is not proved and built, so it is not run'
 grep -q 'rt: sensor NOT PROVED' "$room/said" || fail "what the kit said is not shown: $(cat "$room/said")"
 ! grep -q stale "$room/said" || fail 'an older log is shown'
-export RATTLE_HOME="$proving"
+unset RATTLE_HOME
+path=$proving/bin:$room/bin
 expect 0 'potmeander: proved and built'
+path=$room/bin
+export RATTLE_HOME="$proving"
 expect 0 "$said"
 path=$PATH
 [ "$(cat "$room/said")" = "$said" ] || fail "a built program: $(cat "$room/said")"
@@ -85,19 +101,43 @@ expect 0 'potmeander, proved and built' --version
 # ---- by what the sources are, and the kit: a change is proved whatever its date, and what is proved is not proved again
 export RATTLE_HOME="$failing"
 expect 0 "$said"
-source=$clone/crates/potmeander/src/saying.rt
-cp "$source" "$room/kept"
-echo '// changed' >>"$source"
-touch -d 2001-01-01 "$source"
+cp "$changed" "$room/kept"
+change
 expect 2 'the program is not proved and built, so it is not run'
-cp "$room/kept" "$source"
+cp "$room/kept" "$changed"
 expect 0 "$said"
 rm "$failing/KIT-ID"
 echo 'another kit' >"$failing/KIT-ID"
 expect 2 'the program is not proved and built, so it is not run'
 
-# ---- it starts in less than half a second, the least of three
+# ---- a commit has a name, and what is changed since has not
+if command -v git >/dev/null; then
+    by_git() { git -C "$clone" -c init.defaultBranch=main -c user.name=test -c user.email=test@localhost "$@" >/dev/null; }
+    echo build/ >"$clone/.gitignore"
+    by_git init && by_git add . && by_git commit -m test
+    expect 0 "commit  $(git -C "$clone" rev-parse HEAD)" --version
+    ! grep -q 'and changes' "$room/log" || fail "no changes: $(cat "$room/log")"
+    change
+    expect 0 ', and changes' --version
+    cp "$room/kept" "$changed"
+fi
+
+# ---- a program that does not come to its end, whatever it said
+export RATTLE_HOME="$odd"
+change
+expect 3 'before it had said what it read: the log is not whole'
+grep -qx 'a line before it' "$room/said" || fail "what came first is not shown: $(cat "$room/said")"
+change
+
+# ---- words that reach nobody: it is built all the same
 export RATTLE_HOME="$proving"
+"$clone/potmeander" <examples/full.session >"$room/log" 2>&- || fail "standard error closed: status $?"
+cmp examples/full.log "$room/log"
+change
+"$clone/potmeander" <examples/full.session >"$room/log" 2>/dev/full || fail "standard error full: status $?"
+cmp examples/full.log "$room/log"
+
+# ---- it starts in less than half a second, the least of three
 least=500000000
 for _ in 1 2 3; do
     began=$(date +%s%N)
@@ -107,12 +147,12 @@ for _ in 1 2 3; do
 done
 [ "$least" -lt 500000000 ] || fail 'a built program takes half a second to start'
 
-# ---- a terminal as standard input
+# ---- a terminal as standard input, opened where it becomes nobody's own
 mkfifo "$room/hold"
 c_run "$built/terminal" <"$room/hold" >"$room/terminal" &
 exec 8>"$room/hold"
 comes terminal
-"$clone/potmeander" <"$(cat "$room/terminal")" 2>"$room/said" || fail "a terminal: status $?: $(cat "$room/said")"
+("$clone/potmeander" <"$(cat "$room/terminal")" 2>"$room/said") || fail "a terminal: status $?: $(cat "$room/said")"
 exec 8>&-
 grep -q 'reading a session from this terminal, until Ctrl-D' "$room/said" || fail "a terminal: $(cat "$room/said")"
 
@@ -121,47 +161,53 @@ live() {
     cat examples/full.session
     while [ -d "$room" ] && [ ! -e "$room/over" ]; do sleep 0.1; done
 }
-
 mkfifo "$room/live"
 
-# runs_live: a run that has logged all that came, and waits for more
+# runs_live: a run, in a process group of its own, that has logged all that came and waits for more
 runs_live() {
     rm -f "$room/over" "$room/log"
     live >"$room/live" &
-    "$clone/potmeander" <"$room/live" >"$room/log" 2>"$room/said" &
+    setsid "$clone/potmeander" <"$room/live" >"$room/log" 2>"$room/said" &
     launcher=$!
     comes log
 }
 
-# interrupted TEXT: the launcher was ended by the signal, and said that
+# interrupted STATUS TEXT: the launcher was ended by the signal, and said that; nothing that it started goes on
 interrupted() {
     status=0
     wait "$launcher" 2>/dev/null || status=$?
-    [ "$status" -eq 143 ] || fail "interrupted: status $status: $(cat "$room/said")"
-    grep -q "$1" "$room/said" || fail "interrupted: $(cat "$room/said")"
+    [ "$status" -eq "$1" ] || fail "interrupted: status $status: $(cat "$room/said")"
+    grep -q "$2" "$room/said" || fail "interrupted: $(cat "$room/said")"
+    ! grep -lq "$clone/build/" /proc/[0-9]*/cmdline 2>/dev/null || fail 'the program goes on'
 }
 
-# of the launcher alone
+# of the launcher alone, of a run that built its program: the lock is free meanwhile
+change
 runs_live
+flock -n "$clone/build/lock" true || fail 'the lock is held while a session is read'
 kill -s TERM "$launcher"
-interrupted '^potmeander: the session was not read to its end; .* bytes logged; interrupted$'
+logged='.*'
+[ ! -r /proc/self/io ] || logged=28
+interrupted 143 "^potmeander: the session was not read to its end; $logged bytes logged; interrupted\$"
 cmp examples/full.log "$room/log"
 : >"$room/over"
 sleep 0.5 # the writer has ended
-# of the writer too
-runs_live
-kill -s TERM "$launcher"
-: >"$room/over"
-interrupted "^$said; interrupted$"
+# of its whole group, and then the writer ends
+for signal in TERM HUP; do
+    runs_live
+    kill -s "$signal" -- "-$launcher"
+    : >"$room/over"
+    case $signal in TERM) interrupted 143 "^$said; interrupted\$" ;; HUP) interrupted 129 "^$said; interrupted\$" ;; esac
+    sleep 0.3
+done
 # while it proves: the proof is ended too
 export RATTLE_HOME="$slow"
-echo '// changed' >>"$source"
+change
 "$clone/potmeander" <examples/full.session >"$room/log" 2>"$room/said" &
 launcher=$!
 comes proving
 kill -s TERM "$launcher"
-interrupted '^potmeander: interrupted; nothing was read$'
-sleep 0.5
+interrupted 143 '^potmeander: interrupted; nothing was read$'
 cp "$room/proving" "$room/then"
 sleep 0.5
 cmp "$room/proving" "$room/then" || fail 'the proof goes on after an interrupt'

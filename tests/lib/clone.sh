@@ -7,6 +7,7 @@
 room=$(mktemp -d)
 chmod 755 "$room"
 trap 'rm -rf "$room"' EXIT
+trap 'exit 1' INT TERM HUP
 clone=$room/clone
 mkdir "$clone"
 cp -R potmeander .ci crates crates.txt "$clone"
