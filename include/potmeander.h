@@ -6,6 +6,7 @@
  * outside the log.
  *
  * This page is the manual: 1 the archive, 2 a session, 3 frames, 4 when an event goes out, 5 a log, 6 an example, 7 the numbers, 8 the call.
+ * It says in short what is proved; the definitions decide (docs/TRUST.md, 1), and above them document 01 with M-103 and M-110.
  *
  *
  * 1. THE ARCHIVE
@@ -14,7 +15,8 @@
  * `cc controller.c libsession.a`. It needs memcpy and nothing else of a C library. It has no variables: nothing is kept from one call to the
  * next, and calls in several threads do not know of each other, as long as they share no log. It allocates nothing. A call uses less than
  * 8 KiB of stack (6,377 bytes were measured), beside what a memcpy that is bound at its first call takes there. A tick takes about a
- * microsecond where 16 instances send, and about a thousandth of that where none does (docs/COST.md). The header serves C99 and later, and C++.
+ * microsecond where 16 instances send, and in a long TK about a thousandth of that where none does (docs/COST.md). The header serves C99 and
+ * later, and C++.
  *
  *
  * 2. A SESSION
@@ -62,11 +64,11 @@
  *   enable             62       62       DTR0 does not matter                             enabled    enabled
  *   disable            63       63       DTR0 does not matter
  * hysteresisMin starts as 2^resolution / 100, rounded down, and 255 at most. Filter bits of light: bit 0, its events. Of occupancy: bit 0
- * Occupied, 1 Vacant, 2 Repeat, 3 Movement, 4 No movement.
+ * Occupied, 1 Vacant, 2 Repeat (its reports: off at the start), 3 Movement, 4 No movement.
  *   A new report or deadtime serves from the next start of its timer, but for these: report 0 stops the report timer at once, and a report
  * that was due no longer is; a report above 0 starts it at once where it was stopped; deadtime 0 ends a running dead time at once.
  *
- *   query            light   occupancy   answer, one byte
+ *   query            light   occupancy   answer, one byte; where there is none nothing is logged
  *   type               80       80       04, or 03
  *   resolution         81       81
  *   error              82       82       01 in a failure, else none
@@ -81,16 +83,17 @@
  *   input value        8C       8C       its first byte; the rest is kept for 8D of that instance, up to its next 8C
  *   its next byte      8D       8D       none where nothing is left
  * The input value has the least bytes that hold the resolution. Its bits, from the top, are those of the measured value from the top, again and
- * again: bit j is bit (j mod resolution). Light that is not ready or failed has all bits 1. Occupancy has 00, 55, AA, FF for 0 to 3, and in
- * a failure the value from before it.
+ * again: bit j from the top is bit (j mod resolution) from the top, j from 0. Light that is not ready or failed has all bits 1. Occupancy has
+ * 00, 55, AA, FF for 0 to 3, and in a failure the value of the last tick that was valid.
  *
  *
  * 4. WHEN AN EVENT GOES OUT
  *
  * At a tick the timers fall by one, whatever the instance does. Then each instance, in rising number, takes its held sample and sends one event
  * or none: none in dead time, while disabled, and while not ready or failed. An event at tick t starts dead time, so that the next may go
- * out at t + deadtime, and the report timer, unless report is 0. The report timer runs from the declaration on, and whenever it starts it takes
- * report or deadtime, whichever is longer. A report that is due stays due until an event, or until report is set to 0.
+ * out at t + deadtime (t + 1 for 0), and the report timer, unless report is 0. The report timer runs from the declaration on, and whenever it
+ * starts it takes report or deadtime, whichever is longer. So many ticks later a report is due, and it stays due until an event, or until report
+ * is set to 0.
  *   Light, if its filter bit is set, sends where a report is due; and, with hysteresis above 0, where the value v is above its band, below it, or
  * there is no band. At any event, a report too: without a band, or with v above it, the band becomes v - width (0 at least) to v; with v below
  * it, v to v + width; else it stays. Both ends belong to the band. The width is v x hysteresis / 100, rounded down, or hysteresisMin if that
@@ -109,7 +112,7 @@
  *   EV  tick (4)  instance  priority  information (2)        10    the instance sent an event
  *   AN  tick (4)  instance  answer                            8    the instance answered a query
  *
- * `tick` is the tick number: of an event the tick that sent it, of an answer the last one before its frame.
+ * `tick` is the tick number: of an event the tick that sent it, of an answer the last one before its frame, 0 before the first.
  * `priority` is 5 where a due report is all that asked for the event, and else the instance's.
  * `information` is of the value at that tick. Of light it is ten bits by the rule of the input value: at resolution 10 and above the top ten
  * bits, below that the bits again and again. Of occupancy: bit 0 movement, bit 1 occupied, bit 2 set where a due report is all that asked.
@@ -139,8 +142,8 @@ extern "C" {
 #endif
 
 /* 7. THE NUMBERS by which a record is not taken; there are no others. The session is read up to that record. It changes nothing and writes
- * nothing, and what was logged before it stands; by 9 a TK is refused at a tick, and the ticks before that stand. First it is judged whether there is a mark (2), then whether it is known (1), then whether the
- * record is whole (2), then the record's own numbers, the lowest first. */
+ * nothing, and what was logged before it stands; by 9 a TK is refused at a tick, and the ticks before that stand. First it is judged whether
+ * there is a mark (2), then whether it is known (1), then whether the record is whole (2), then the record's own numbers, the lowest first. */
 enum {
     POTMEANDER_TAKEN = 0,           /* all records were taken; an empty session too */
     POTMEANDER_UNKNOWN_MARK = 1,    /* the mark is none of IN, SA, FR, TK */
@@ -169,9 +172,9 @@ typedef struct {
  * log        log_len bytes: the first `written` of them become the log, each byte behind those keeps what it held
  * Both are the caller's before and after, and must not overlap. Either may be empty: with length 0 a pointer may be null.
  *
- * How much room: ten bytes for each instance and tick and eight for each query are always enough, and far more than most sessions need, since
- * no instance sends twice within its deadtime. Light as declared sends once in 30 ticks at most: 16 of them need 384,000 bytes for an hour
- * of 72,000 ticks, and 19,200 bytes where no value leaves its band.
+ * How much room: ten bytes for each instance and tick and eight for each query are always enough, and far more than most sessions need: while
+ * its deadtime is not changed no instance sends twice within it. Light as declared sends once in 30 ticks at most, so that 16 of them need 384,000
+ * bytes for an hour of 72,000 ticks, and 19,200 bytes where no value leaves its band and none fails.
  *
  * After 9, for want of room: the records that are in the log are right, and of a TK `ticks` ticks stand with them; the tick, or the query, that
  * found no room did nothing. Nothing was kept, so call again with the whole session and more room; the log begins with the same bytes. A session

@@ -133,9 +133,11 @@ change
 export RATTLE_HOME="$proving"
 "$clone/potmeander" <examples/full.session >"$room/log" 2>&- || fail "standard error closed: status $?"
 cmp examples/full.log "$room/log"
-change
-"$clone/potmeander" <examples/full.session >"$room/log" 2>/dev/full || fail "standard error full: status $?"
-cmp examples/full.log "$room/log"
+if [ -w /dev/full ]; then
+    change
+    "$clone/potmeander" <examples/full.session >"$room/log" 2>/dev/full || fail "standard error full: status $?"
+    cmp examples/full.log "$room/log"
+fi
 
 # ---- it starts in less than half a second, the least of three
 least=500000000
@@ -148,13 +150,15 @@ done
 [ "$least" -lt 500000000 ] || fail 'a built program takes half a second to start'
 
 # ---- a terminal as standard input, opened where it becomes nobody's own
-mkfifo "$room/hold"
-c_run "$built/terminal" <"$room/hold" >"$room/terminal" &
-exec 8>"$room/hold"
-comes terminal
-("$clone/potmeander" <"$(cat "$room/terminal")" 2>"$room/said") || fail "a terminal: status $?: $(cat "$room/said")"
-exec 8>&-
-grep -q 'reading a session from this terminal, until Ctrl-D' "$room/said" || fail "a terminal: $(cat "$room/said")"
+if [ -c /dev/ptmx ]; then
+    mkfifo "$room/hold"
+    c_run "$built/terminal" <"$room/hold" >"$room/terminal" &
+    exec 8>"$room/hold"
+    comes terminal
+    ("$clone/potmeander" <"$(cat "$room/terminal")" 2>"$room/said") || fail "a terminal: status $?: $(cat "$room/said")"
+    exec 8>&-
+    grep -q 'reading a session from this terminal, until Ctrl-D' "$room/said" || fail "a terminal: $(cat "$room/said")"
+fi
 
 # ---- interrupts. The session comes from `live`, which then waits until it is told to end
 live() {
