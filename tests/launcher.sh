@@ -61,6 +61,7 @@ for call in --help --version; do
     status=0
     "$clone/potmeander" $call <examples/full.session >&- 2>/dev/null || status=$?
     [ "$status" -eq 3 ] || fail "$call that is not written: status $status"
+    [ ! -e "$clone/build" ] || fail "$call that is not written goes on to a session"
 done
 
 # ---- kits: none; none where RATTLE_HOME says
