@@ -1,4 +1,5 @@
 pub mod Log
 pub mod Laws
 pub mod Bytes
+pub mod Reading
 pub mod Unique

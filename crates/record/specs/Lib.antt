@@ -2,3 +2,4 @@ pub mod Numbers
 pub mod Marks
 pub mod Log
 pub mod Put
+pub mod Entries

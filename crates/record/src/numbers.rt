@@ -15,3 +15,10 @@ pub fn triple(high: u8, middle: u8, low: u8) -> u32
 {
     ((high as u32) * 256 + (middle as u32)) * 256 + (low as u32)
 }
+
+// Of four bytes, two by two.
+pub fn quad(high: u16, low: u16) -> u32
+    ensures { λ r. ⌜ r ≡ high * 65536 + low ⌝ }
+{
+    (high as u32) * 65536 + (low as u32)
+}
