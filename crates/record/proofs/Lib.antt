@@ -1,5 +1,6 @@
 pub mod Log
 pub mod Laws
 pub mod Bytes
+mod Moves
 pub mod Reading
 pub mod Unique

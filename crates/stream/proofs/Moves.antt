@@ -1,7 +1,7 @@
--- Bytes moved to the front of their buffer, one by one.
+-- A TK shortened to the ticks that remain, and what is kept of a buffer.
 -- Assumes nothing.
-use Prim.Native.Nat.{ℕ, suc, _+_, _-_, _<_, _≤_}
-use Rattle.record.proofs.Laws.{put-front, put-nothing}
+use Prim.Native.Nat.{ℕ, _-_, _≤_}
+use Rattle.record.proofs.Laws.{put-front}
 use Rattle.record.specs.Marks.{markSize, ticks}
 use Rattle.record.specs.Numbers.{word}
 use Rattle.record.specs.Put.{put}
@@ -10,68 +10,13 @@ use Rattle.session.specs.Session.{End}
 use Rattle.stream.specs.Stream.{remaining, unread}
 use borrow.Author.Tests.{le-ltb, lt-ltb, ne-eqb}
 use lib.Dec.{eqb, ltb}
-use lib.ListN.{drop, getD, length, length-drop, set, take}
-use lib.Seq.{append-snoc, drop-append-le, drop-append-seam, drop-cons, getD-append-add, getD-drop, length-slice, length-take-le, set-at, sets, sets-eq, slice, slice-empty, take-append-seam, take-suc}
+use lib.ListN.{drop, length, length-drop, take}
+use lib.Seq.{drop-append-seam, length-slice, sets, sets-eq, slice, take-append-seam}
 use mathlib.Core.Bool.{Bool, cond, false, true}
-use mathlib.Core.List.{List, [], _++_, _∷_}
+use mathlib.Core.List.{List, [], _++_}
 use mathlib.Core.Path.{ap, refl, sym, _≡_, _∙_}
 use native.Mathlib.Decide.{decLe}
-use native.Mathlib.Nat.{add-comm, add-zero}
-use native.Mathlib.Numerals.{add-one}
 use native.Mathlib.Omega.{arith}
-
--- i bytes from `start` on are at the front
-abbrev pub moved : (start i : ℕ) → List ℕ → List ℕ
-moved start i b = put 0 (slice start (start + i) b) b
-
-module _ (start i : ℕ) (b : List ℕ) where
-  front-long : start + i ≤ length b → length (slice start (start + i) b) ≡ i
-  front-long h = length-slice start (start + i) b h ∙ omega arith
-
-  as-front : start + i ≤ length b → moved start i b ≡ slice start (start + i) b ++ drop i b
-  as-front h = put-front (slice start (start + i) b) b ∙ ap (λ (k : ℕ). slice start (start + i) b ++ drop k b) (front-long h)
-
-  module _ (fits : start + i < length b) where
-    -- the byte that is read has not been stored to yet
-    reads : getD (slice start (start + i) b ++ drop i b) (start + i) 0 ≡ getD b (start + i) 0
-    reads =
-        let P = slice start (start + i) b in
-        ap (λ (k : ℕ). getD (P ++ drop i b) k 0) (add-comm start i ∙ ap (λ (k : ℕ). k + start) (sym (front-long (omega arith))))
-        ∙ getD-append-add P (drop i b) start 0
-        ∙ getD-drop i b start 0
-        ∙ ap (λ (k : ℕ). getD b k 0) (add-comm i start)
-
-    one-more : slice start (suc (start + i)) b ≡ slice start (start + i) b ++ (getD b (start + i) 0 ∷ [])
-    one-more =
-        let long : length (take (start + i) b) ≡ start + i = length-take-le (start + i) b (omega arith) in
-        ap (drop start) (take-suc b (start + i) 0 fits) ∙ drop-append-le start (take (start + i) b) (getD b (start + i) 0 ∷ []) (omega arith)
-
-    stored : set (slice start (start + i) b ++ drop i b) i (getD b (start + i) 0) ≡ slice start (suc (start + i)) b ++ drop (suc i) b
-    stored =
-        let P = slice start (start + i) b in
-        let a = getD b (start + i) 0 in
-        let below : i < length b = omega arith in
-        ap (λ (l : List ℕ). set (P ++ l) i a) (drop-cons b i 0 below)
-        ∙ set-at P (getD b i 0) (drop (suc i) b) a i (front-long (omega arith))
-        ∙ sym (append-snoc P a (drop (suc i) b))
-        ∙ ap (λ (l : List ℕ). l ++ drop (suc i) b) (sym one-more)
-
-    read-and-stored : set (moved start i b) i (getD (moved start i b) (start + i) 0) ≡ slice start (suc (start + i)) b ++ drop (suc i) b
-    read-and-stored =
-        ap (λ (l : List ℕ). set l i (getD l (start + i) 0)) (as-front (omega arith))
-        ∙ ap (λ (x : ℕ). set (slice start (start + i) b ++ drop i b) i x) reads
-        ∙ stored
-
-pub moves : (start i : ℕ) (b : List ℕ) → start + i < length b → set (moved start i b) i (getD (moved start i b) (start + i) 0) ≡ moved start (i + 1) b
-moves start i b fits =
-    let up : start + (i + 1) ≡ suc (start + i) = omega arith in
-    read-and-stored start i b fits
-    ∙ ap (λ (k : ℕ). slice start k b ++ drop (suc i) b) (sym up)
-    ∙ ap (λ (k : ℕ). slice start (start + (i + 1)) b ++ drop k b) (sym (add-one i))
-    ∙ sym (as-front start (i + 1) b (omega arith))
-
-pub moves-none : (start : ℕ) (b : List ℕ) → b ≡ moved start 0 b
-moves-none start b = sym (ap (λ (l : List ℕ). put 0 l b) (rw add-zero (slice-empty start b)) ∙ put-nothing 0 b)
 
 -- ---- a TK shortened
 -- it is as long as it was

@@ -147,20 +147,8 @@ fn keep(bytes: &mut [u8], at: usize, end: usize, done: u16)
     ensures { λ _. ⌜ now (bytes .exit) ≡ put 0 (remaining done (slice at end (now (bytes .entry)))) (now (bytes .entry)) ⌝ }
 {
     let left = end - at;
-    to_front(bytes, at, end);
+    record::to_front(bytes, at, end);
     shorten(&mut bytes[0..left], done);
-}
-
-// Moves the bytes from `start` up to `end` to the front; what lies past them keeps its place.
-fn to_front(bytes: &mut [u8], start: usize, end: usize)
-    requires { ⌜ (start ≤ end) × (end ≤ length (now bytes)) ⌝ }
-    ensures { λ _. ⌜ now (bytes .exit) ≡ put 0 (slice start end (now (bytes .entry))) (now (bytes .entry)) ⌝ }
-{
-    let mut i = 0;
-    while i < end - start {
-        bytes[i] = bytes[start + i];
-        i += 1;
-    }
 }
 
 // The record at the front was carried out for `done` ticks. Where that is above 0 it is a TK, and one of the ticks that remain takes its

@@ -1,10 +1,10 @@
--- `stream::to_front` meets its contract: after i stores, i bytes are at the front.
+-- `record::buffers::shift` meets its contract: after i stores, i bytes are at the front.
 -- Assumes nothing.
 use Prim.Native.Nat.{ℕ, _+_, _-_, _≤_}
 use Rattle.record.specs.Put.{put}
-use Rattle.stream.proofs.Moves.{moved, moves, moves-none}
-use Rattle.stream.proofs.to_front.Statement.{statement}
-use Rattle.stream.proofs.to_front.Tie as tie
+use Rattle.record.proofs.Moves.{moved, moves, moves-none}
+use Rattle.record.proofs.buffers.shift.Statement.{statement}
+use Rattle.record.proofs.buffers.shift.Tie as tie
 use borrow.Author.Needs.{needs}
 use lib.ListN.{getD, length, length-set, set}
 use lib.Seq.{slice}
@@ -58,8 +58,8 @@ returns c =
     let e : a .start + l .i ≡ a .end = omega arith in
     l .inv .2 ∙ ap (λ (k : ℕ). put 0 (slice (a .start) k (a .bytes .now)) (a .bytes .now)) e
 
-pub to-front-spec : {M : Type 1} → statement M
-to-front-spec =
+pub shift-spec : {M : Type 1} → statement M
+shift-spec =
     tie.close
     (tie.spec
     Inv-loop
