@@ -1,6 +1,6 @@
 # Holds the entries of each crate's Unique.antt to the functions that the crate exports, both ways, and prints a line for what is wrong:
 #   awk -f unique.awk EXPORTED UNIQUE..     EXPORTED: `CRATE PATH LENT` of each; UNIQUE: crates/CRATE/proofs/Unique.antt
-# An entry `pub NAME-unique : Unique .. X.Post` (UniqueLent; UniqueWalked X.ended of one that is walked by hand) is of the function that a
+# An entry `pub NAME-unique : Unique .. X.Post` (UniqueLent; UniqueBehind of one that hands back a reference; UniqueWalked X.ended of one that is walked by hand) is of the function that a
 # `use` line brings as X, whatever NAME says; what is lent it picks by as many `.now`. What `Unique` says is in crate promise, and nowhere else.
 
 function said(f) {
@@ -12,7 +12,7 @@ function entry(name, statement,   word, f) {
     split(statement, word, " ")
     if (word[1] == "UniqueWalked" && sub(/[.]ended$/, "", word[2]))
         f = brought[word[2]]
-    else if (word[1] ~ /^Unique(Lent)?$/ && sub(/[.]Post$/, "", word[5]))
+    else if (word[1] ~ /^Unique(Lent|Behind)?$/ && sub(/[.]Post$/, "", word[5]))
         f = brought[word[5]]
     if (!(f in lent))
         print "Unique of " crate ": " name " is of no exported function: " (f == "" ? statement : said(f))

@@ -20,7 +20,12 @@ abbrev pub UniqueLent : (n : ℕ) (ps : List (PK n)) (r : RK n) → Out n ps r �
 UniqueLent n ps r P L lent =
     (κs : Lfts n) (a : Dens κs ps) (x y : resT r κs .Denot) (s t : AtExit (endedOf n ps r) κs) → P κs a x s → P κs a y t → (x ≡ y) × (lent κs s ≡ lent κs t)
 
--- the same of a function that is walked by hand. T is its signature and C its contract, as the checker exports them (g is what a contract may bind
+-- of a function that hands back a reference: what lies behind the one and behind the other is equal
+abbrev pub UniqueBehind : (n : ℕ) (ps : List (PK n)) (r : RK n) → Out n ps r → (L : Type 0) → (behind : (κs : Lfts n) → resT r κs .Denot → L) → Type 0
+UniqueBehind n ps r P L behind =
+    (κs : Lfts n) (a : Dens κs ps) (x y : resT r κs .Denot) (s t : AtExit (endedOf n ps r) κs) → P κs a x s → P κs a y t → behind κs x ≡ behind κs y
+
+-- and of a function that is walked by hand, as UniqueLent. T is its signature and C its contract, as the checker exports them (g is what a contract may bind
 -- besides). The promise is the `ensures` of C, an assertion at each model w of the program logic: a result satisfies it where it holds, at any resource
 abbrev pub UniqueWalked : (T : Ended) (C : (w : World) → Clauses (w .𝓤) T) (L : Type 0) → (lent : (κs : Lfts (T .signature .lifetimes)) → AtExit T κs → L) → Type 2
 UniqueWalked T C L lent =
