@@ -1,20 +1,22 @@
 /* Potmeander: a model of a DALI-2 input device with up to 16 sensor instances (IEC 62386-303, occupancy, and -304, light), for a bench
  * controller.
  *
- * The library has one call. It reads a whole session, what the device is given, from a fresh model, and writes the log, what the device must
- * send and answer. Any bytes may be given as a session: the call always returns, it reads nothing outside the session, and it writes nothing
- * outside the log.
+ * The library has two calls. potmeander_session reads a whole session, what the device is given, from a fresh model, and writes the log, what
+ * the device must send and answer. potmeander_compare lays the device's log beside the model's and names the first difference. Any bytes may be
+ * given as a session and as a log: a call always returns, it reads nothing outside what it is given, and it writes nothing outside the log.
  *
- * This page is the manual: 1 the archive, 2 a session, 3 frames, 4 when an event goes out, 5 a log, 6 an example, 7 the numbers, 8 the call.
- * It says in short what is proved; the definitions decide (docs/TRUST.md, 1), and above them document 01 with M-103 and M-110.
+ * This page is the manual: 1 the archives, 2 a session, 3 frames, 4 when an event goes out, 5 a log, 6 an example, 7 the numbers, 8 the call
+ * for a session, 9 the call for two logs. It says in short what is proved; the definitions decide (docs/TRUST.md, 1), and above them document
+ * 01 with M-102, M-103 and M-110.
  *
  *
- * 1. THE ARCHIVE
+ * 1. THE ARCHIVES
  *
  * `rt staticlib session` proves the library and makes target/staticlib/libsession.a, for x86-64 (System V ABI), with one exported function:
- * `cc controller.c libsession.a`. It needs memcpy and nothing else of a C library. It has no variables: nothing is kept from one call to the
- * next, and calls in several threads do not know of each other, as long as they share no log. It allocates nothing. A call uses less than
- * 8 KiB of stack (6,377 bytes were measured), beside what a memcpy that is bound at its first call takes there. A tick takes about a
+ * `cc controller.c libsession.a`. `rt staticlib compare` makes libcompare.a likewise, with potmeander_compare; each serves without the other,
+ * and both together. The first needs memcpy and nothing else of a C library, the second nothing. They have no variables: nothing is kept from one
+ * call to the next, and calls in several threads do not know of each other, as long as they share no log that is written. They allocate nothing. A
+ * call uses less than 8 KiB of stack (6,377 bytes were measured), beside what a memcpy that is bound at its first call takes there. A tick takes about a
  * microsecond where 16 instances send, and in a long TK about a thousandth of that where none does (docs/COST.md). The header serves C99 and
  * later, and C++.
  *
@@ -146,7 +148,7 @@ extern "C" {
  * there is a mark (2), then whether it is known (1), then whether the record is whole (2), then the record's own numbers, the lowest first. */
 enum {
     POTMEANDER_TAKEN = 0,           /* all records were taken; an empty session too */
-    POTMEANDER_UNKNOWN_MARK = 1,    /* the mark is none of IN, SA, FR, TK */
+    POTMEANDER_UNKNOWN_MARK = 1,    /* the mark is none of IN, SA, FR, TK; in a log that is compared (part 9), none of EV, AN */
     POTMEANDER_CUT = 2,             /* fewer bytes remain than the mark, or the record, needs */
     POTMEANDER_LATE_OR_SKIPPED = 3, /* IN after a record of another kind, or its number is not the next, from 0 */
     POTMEANDER_NO_SUCH_SENSOR = 4,  /* IN: number 16, after 16 others, or a type and resolution that are not modelled */
@@ -166,7 +168,7 @@ typedef struct {
     uint64_t ticks;   /* for number 9 inside a TK: the ticks of that TK that were carried out; else 0 */
 } potmeander_reading;
 
-/* 8. THE CALL reads the session from a fresh model.
+/* 8. THE CALL FOR A SESSION reads it from a fresh model.
  *
  * session    session_len bytes, read only
  * log        log_len bytes: the first `written` of them become the log, each byte behind those keeps what it held
@@ -181,6 +183,49 @@ typedef struct {
  * whose log is longer than any room is for the program ./potmeander, which goes on where the room ends.
  */
 potmeander_reading potmeander_session(const uint8_t *session, size_t session_len, uint8_t *log, size_t log_len);
+
+/* The first field in which two records differ, in the order in which they are looked at. Where the marks differ nothing behind them is a field. */
+enum {
+    POTMEANDER_NO_FIELD = 0, /* no pair differs */
+    POTMEANDER_MARK = 1,     /* one is an EV, the other an AN */
+    POTMEANDER_TICK = 2,
+    POTMEANDER_INSTANCE = 3,
+    POTMEANDER_PRIORITY = 4,    /* of EV */
+    POTMEANDER_INFORMATION = 5, /* of EV */
+    POTMEANDER_ANSWER = 6       /* of AN */
+};
+
+/* Whose log. */
+enum { POTMEANDER_DEVICE = 0, POTMEANDER_MODEL = 1 };
+
+/* What two logs laid side by side come to. */
+typedef struct {
+    uint64_t number;        /* 0; 1 or 2 where a record of a log is refused: POTMEANDER_UNKNOWN_MARK, POTMEANDER_CUT */
+    uint64_t refused;       /* for 1 and 2: whose log has that record; else 0 */
+    uint64_t device_offset; /* for 0 the two are the same, as what lies before is: where the differing record begins; where none differs, the
+                               bytes walked. For 1 and 2 where the refused record begins in its own log, and 0 in the other */
+    uint64_t model_offset;
+    uint64_t field;         /* of the differing pair: POTMEANDER_MARK to POTMEANDER_ANSWER; where none differs 0 */
+    int64_t difference;     /* of the differing pair, whatever its field: the device's tick minus the model's, below zero where the device was
+                               early; where none differs 0 */
+    uint64_t all;           /* 1: the logs are equal, the records up to there were all there were; else 0 */
+    uint64_t rest_of;       /* whose rest is handed back */
+    uint64_t rest_offset;   /* where it begins in that log, and how many bytes it has: it ends where the log does */
+    uint64_t rest_len;
+} potmeander_finding;
+
+/* 9. THE CALL FOR TWO LOGS walks them record by record, to the first pair that differs.
+ *
+ * device     device_len bytes: what the device sent and answered, as a log (part 5)
+ * model      model_len bytes: the model's log
+ * Both are read only, and may overlap. Either may be empty: with length 0 a pointer may be null.
+ *
+ * First each log is judged, whole, as a row of EV and AN records, the device's first: is there a mark (2), is it known (1), is the record whole
+ * (2). Then they are walked. The rest that is handed back is the device's from the differing record on; where none differs, that of the longer log
+ * behind what is equal; where the logs are equal, and for 1 and 2, the empty end of the device's (rest_of 0, rest_offset device_len, rest_len 0).
+ * The ticks in a log may be any, and may fall: what is compared is the records as they stand.
+ */
+potmeander_finding potmeander_compare(const uint8_t *device, size_t device_len, const uint8_t *model, size_t model_len);
 
 #ifdef __cplusplus
 }

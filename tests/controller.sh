@@ -1,11 +1,13 @@
 #!/bin/sh
 # A C program calls the library through include/potmeander.h, and gets document 01's log; as C99 and as C++. And what the header says of the
-# archive: it needs memcpy and nothing else, null with length 0, threads, less than 8 KiB of stack.
+# archives: the one needs memcpy and nothing else, the other nothing; null with length 0, threads, less than 8 KiB of stack.
 set -eu
 cd "$(dirname "$0")/.."
 . tests/lib/build.sh
 c_library session
+c_library compare
 archive=target/staticlib/libsession.a
+comparing=target/staticlib/libcompare.a
 
 c_object "$built/controller.o" tests/controller.c -std=c99 -pedantic
 c_object "$built/controller_cpp.o" tests/controller.c -x c++ -std=c++11 -pedantic
@@ -28,10 +30,11 @@ if alone 2>/dev/null; then
     echo 'the archive links without memcpy: what it needs is not seen' >&2
     exit 1
 fi
+"$c_tools/bin/ld.lld" -m elf_x86_64 -e potmeander_compare -o "$built/alone.out" --whole-archive "$comparing"
 
 c_object "$built/header.o" tests/header.c
 c_object "$built/generator.o" tests/lib/generator.c
-c_program "$built/header" "$built/header.o" "$built/generator.o" "$archive"
+c_program "$built/header" "$built/header.o" "$built/generator.o" "$archive" "$comparing"
 c_run "$built/header" >"$built/header.out"
 cat "$built/header.out"
 grep -qx 'null with length 0: as an empty slice' "$built/header.out"

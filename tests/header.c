@@ -45,16 +45,28 @@ static void on_painted_stack(void (*call)(void))
                        "xmm3", "xmm4", "xmm5", "xmm6", "xmm7", "xmm8", "xmm9", "xmm10", "xmm11", "xmm12", "xmm13", "xmm14", "xmm15");
 }
 
+static void compare_logs(void)
+{
+    static const uint8_t device[] = "EV\0\0\0\1\0\4\1\x91" "AN\0\0\0\2\0\x5E", model[] = "EV\0\0\0\1\0\4\1\x91" "AN\0\0\0\2\0\x5F";
+    potmeander_compare(device, sizeof device - 1, model, sizeof model - 1);
+}
+
+static size_t stack_used(void (*call)(void))
+{
+    memset(stack, 0xA5, STACK);
+    on_painted_stack(call);
+    size_t left = 0;
+    while (left < STACK && stack[left] == 0xA5) left++;
+    return STACK - left;
+}
+
 static size_t most_stack(void)
 {
-    size_t most = 0;
+    size_t most = stack_used(compare_logs);
     for (uint64_t seed = 1; seed <= CASES; seed++) {
         case_read = generate(seed, 0);
-        memset(stack, 0xA5, STACK);
-        on_painted_stack(read_case);
-        size_t left = 0;
-        while (left < STACK && stack[left] == 0xA5) left++;
-        if (STACK - left > most) most = STACK - left;
+        size_t used = stack_used(read_case);
+        if (used > most) most = used;
     }
     return most;
 }
