@@ -1,0 +1,3 @@
+mod Coming
+mod Pieces
+mod Turns
