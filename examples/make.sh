@@ -1,10 +1,11 @@
 #!/bin/sh
-# Writes the sessions of this folder, record by record.
+# Writes the sessions of this folder, record by record, and the device's log that is to be compared.
 #   examples/make.sh [FOLDER]     into FOLDER, or where this script is
 set -eu
 unset CDPATH
-. "$(dirname "$0")/records.sh"
-cd "${1:-$(dirname "$0")}"
+here=$(cd "$(dirname "$0")" && pwd)
+. "$here/records.sh"
+cd "${1:-$here}"
 
 occupancy=3 light=4
 valid=0 unready=1 failed=2
@@ -84,6 +85,60 @@ hour() {
     FR 01 01 3F  # and the hysteresis
 }
 
+# ---- an hour for two logs side by side: instance 0 occupancy, instance 1 light of 10 bits at the window, instance 2 light of 8 bits at the desk
+compare_model() {
+    IN 0 $occupancy 2
+    IN 1 $light 10
+    IN 2 $light 8
+    set_to 00 01 30  # neither light sensor reports:
+    set_to 00 02 30
+    FR 01 01 3E
+    FR 01 02 3E
+
+    # a quarter: nobody
+    SA 0 $valid $vacant
+    SA 1 $valid 300
+    SA 2 $valid 40
+    TK "$(seconds 900)"
+
+    # a quarter at the desk, the lamp on
+    SA 0 $valid $moving
+    SA 1 $valid 420
+    SA 2 $valid 180
+    TK "$(seconds 900)"
+
+    # twenty minutes: nobody, the lamp off
+    SA 0 $valid $vacant
+    SA 1 $valid 300
+    SA 2 $valid 40
+    TK "$(seconds 1200)"
+
+    # back again; the sensor at the desk fails
+    SA 0 $valid $moving
+    SA 1 $valid 420
+    SA 2 $failed 0
+    TK "$(seconds 300)"
+    FR 01 02 82  # its error byte
+    FR 01 02 83  # its status: failed and enabled
+    TK "$(seconds 298)"
+
+    # it measures again, and at tick 71,970 sends; at 71,981 more light leaves its band, and must wait for the end of dead time, tick 72,000
+    TK 9
+    SA 2 $valid 90
+    TK 11
+    SA 2 $valid 100
+    TK 40
+
+    # the room is left
+    SA 0 $valid $vacant
+    SA 2 $valid 40
+    TK "$(seconds 60)"
+    FR 01 02 8C  # the value at the desk
+}
+
+# The device's log: the model's, but for one tick. Its event of 72,000 was sent at 71,981, in dead time.
+compare_device() { head -c 144 "$here/compare.model.log" && printf '\000\001\031\055' && tail -c +149 "$here/compare.model.log"; }
+
 # ---- one session for each refusal
 refused_1() { IN 0 $light 8 && printf XX; }                      # no such mark
 refused_2() { IN 0 $light 8 && printf 'TK\000'; }                # a record cut short
@@ -118,3 +173,5 @@ refused_13() {
 for session in full hour refused_1 refused_2 refused_3 refused_4 refused_5 refused_6 refused_7 refused_8 refused_13; do
     $session >"$session.session"
 done
+compare_model >compare.model.session
+compare_device >compare.device.log

@@ -4,7 +4,7 @@
 set -eu
 cd "$(dirname "$0")/.."
 . tests/lib/build.sh
-rt check potmeander >target/program.log || { cat target/program.log >&2; exit 1; }
+rt check potmeander logs >target/program.log || { cat target/program.log >&2; exit 1; }
 for tool in terminal odd; do
     c_object "$built/$tool.o" "tests/lib/$tool.c"
     c_program "$built/$tool" "$built/$tool.o"
@@ -14,7 +14,6 @@ export TMPDIR="$room/tmp"
 mkdir "$TMPDIR"
 
 # Kits, to be given by RATTLE_HOME: one that proves; one that fails, though it leaves a program; one that makes another program; one that is slow
-into_place() { printf 'mkdir -p target/bin && cp %s target/bin/potmeander' "'$PWD/$1'"; }
 kit_with 'echo "rt: promise proved (0 s)"' "$(into_place target/bin/potmeander)" && proving=$kit
 kit_with 'echo "rt: sensor NOT PROVED (exit 1, 0 s)"' "$(into_place target/bin/potmeander)" 'exit 1' && failing=$kit
 kit_with "$(into_place "$built/odd")" && odd=$kit
@@ -57,6 +56,8 @@ expect 0 "sources sha256 $(cd "$clone" && find crates.txt crates -type f -exec s
 expect 0 "kit     $(rt version)" --version
 expect 2 'not a call: session.bin' session.bin
 expect 2 'not a call: --help me' --help me
+expect 2 './potmeander compare DEVICE MODEL' --help me
+expect 0 './potmeander show <LOG' --help
 for call in --help --version; do
     status=0
     "$clone/potmeander" $call <examples/full.session >&- 2>/dev/null || status=$?

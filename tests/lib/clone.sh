@@ -2,6 +2,7 @@
 #   room               a temporary folder, removed at the end
 #   clone              the clone in it; clone/potmeander is the launcher
 #   kit_with LINE...   a kit, in $kit, whose `rt` is these lines of sh and whose other parts are the kit's
+#   into_place MODEL   such a line: what it builds is MODEL, and for the other program target/bin/logs
 #   fail WORDS         ends the test
 
 room=$(mktemp -d)
@@ -16,6 +17,8 @@ fail() {
     echo "$*" >&2
     exit 1
 }
+
+into_place() { printf 'mkdir -p target/bin && cp %s target/bin/potmeander && cp %s target/bin/logs' "'$PWD/$1'" "'$PWD/target/bin/logs'"; }
 
 kit_with() {
     kit=$(mktemp -d "$room/kit.XXXXXX")
