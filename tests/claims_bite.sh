@@ -94,6 +94,7 @@ edited $widen 's/^    ensures/  ensures/' 'a source is not in the layout'
 
 # ---- Unique
 unique=crates/widen/proofs/Unique.antt record=crates/record/proofs/Unique.antt command=crates/command/proofs/Unique.antt
+compare=crates/compare/proofs/Unique.antt
 edited $unique '/^pub mask-unique/d' 'Unique: no entry for widen::mask'
 edited $unique '/^pub mask-unique/ s/mask[.]Post/input-bytes.Post/' 'Unique: no entry for widen::mask'
 edited $unique '/^use .*mask[.]Reads/ s/proofs[.]mask/proofs.input_bytes/' 'Unique: 2 entries for widen::input_bytes'
@@ -101,6 +102,7 @@ edited $unique '/^use .*mask[.]Reads/ s/proofs[.]mask/proofs.capped/' 'Unique of
 edited $unique '/^use .*specs[.]Unique/ s/promise/widen/' "Unique of widen: mask-unique says a Unique that is not crate promise's"
 edited $record '/^pub write-event-unique/ s/ : UniqueLent\(.*[.]Post\).*/ : Unique\1/' \
     'Unique of record: write-event-unique does not speak of all that is lent'
+edited $compare '/^pub rest-unique/d' 'Unique: no entry for compare::rest'
 edited $command '/^pub apply-unique/d' 'Unique: no entry for command::apply'
 edited $command '/^pub apply-unique/ s/apply[.]ended/another.ended/' 'Unique of command: apply-unique is of no exported function'
 edited $record '/^use .*word[.]Reads/ s/Rattle.*word[.]/Rattle.widen.proofs.mask./' "Unique of record: word-unique is of another crate's function: widen::mask"
