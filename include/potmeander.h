@@ -6,8 +6,8 @@
  * given as a session and as a log: a call always returns, it reads nothing outside what it is given, and it writes nothing outside the log.
  *
  * This page is the manual: 1 the archives, 2 a session, 3 frames, 4 when an event goes out, 5 a log, 6 an example, 7 the numbers, 8 the call
- * for a session, 9 the call for two logs. It says in short what is proved; the definitions decide (docs/TRUST.md, 1), and above them document
- * 01 with M-102, M-103 and M-110.
+ * for a session, 9 the call for two logs, 10 the hour table. It says in short what is proved; the definitions decide (docs/TRUST.md, 1), and above them
+ * document 01 with M-102, M-103, M-106 and M-110.
  *
  *
  * 1. THE ARCHIVES
@@ -157,7 +157,10 @@ enum {
     POTMEANDER_NO_TICKS = 7,        /* TK with count 0 */
     POTMEANDER_TIME_OVER = 8,       /* TK: the tick number would pass 4,294,967,295; the whole TK is not taken */
     POTMEANDER_FULL = 9,            /* the records of one tick, or one answer, do not fit in what is left of the log */
-    POTMEANDER_NOT_READY_AGAIN = 13 /* SA: status 1, not ready, for an instance that has had a valid sample (status 0, taken) */
+    POTMEANDER_BEYOND_TABLE = 10,   /* with the hour table in use (part 10) alone, after 8 and before 9: the tick number would pass 3,456,000; the
+                                       whole TK is not taken. Of a log: a tick above that, or an hour that is none */
+    POTMEANDER_NOT_READY_AGAIN = 13, /* SA: status 1, not ready, for an instance that has had a valid sample (status 0, taken) */
+    POTMEANDER_TICK_FALLS = 16      /* of a log alone (part 10): a tick below that of the record before */
 };
 
 /* What a reading came to. */
@@ -226,6 +229,46 @@ typedef struct {
  * The ticks in a log may be any, and may fall: what is compared is the records as they stand.
  */
 potmeander_finding potmeander_compare(const uint8_t *device, size_t device_len, const uint8_t *model, size_t model_len);
+
+/* 10. THE HOUR TABLE has a number of events and a gap for each of 16 instances and each of 48 hours. Hour k, from 0 on, holds the ticks 72,000 k + 1 to
+ * 72,000 (k + 1); tick 0 is in none, and 3,456,000 is the last tick of the last. No clock is known here.
+ *
+ * events     the EV records of instance i with a tick of hour k: entry [i * 48 + k]
+ * gaps       the longest gap, in ticks, that an event of instance i ended in hour k: from the tick of its event before, in whichever hour that lies,
+ *            or from tick 0 for its first; 0 where no event ended one. What follows the last event ends no gap. Entry [i * 48 + k]
+ * An hour without events has 0 in both. A table that is filled gets all its 768 entries, whatever they held; entries behind those keep what they held, and
+ * a table that is shorter gets the entries that it has. An EV of tick 0, or of an instance 16 or above, is in no entry. A number of events above
+ * 4,294,967,295 stands as that. `log`, `events` and `gaps` are the caller's before and after, and what is written must not overlap anything else. Each may
+ * be empty: with length 0 a pointer may be null. Lengths of `events` and `gaps` are in entries.
+ */
+enum { POTMEANDER_HOURS = 48, POTMEANDER_ENTRIES = 768 };
+
+/* What a log came to. */
+typedef struct {
+    uint64_t number; /* 0, 1, 2, 10 or 16 */
+    uint64_t offset; /* where the refused record begins in the log; for 0 the log's length */
+} potmeander_tally;
+
+/* The table of any log, the device's too. First the log is judged, whole: as a row of EV and AN records (1 or 2, as in part 9); then 16 at the first record, of
+ * whatever mark and instance, with a tick below that of the record before; then 10 at the first record with a tick above 3,456,000. A log that is refused changes
+ * no entry. */
+potmeander_tally potmeander_hours(const uint8_t *log, size_t log_len, uint32_t *events, size_t events_len, uint32_t *gaps, size_t gaps_len);
+
+/* A session read from a fresh model with the table in use: as part 8 has it, and with number 10. The table is filled from what was logged, whatever the number. */
+potmeander_reading potmeander_session_hours(const uint8_t *session, size_t session_len, uint8_t *log, size_t log_len,
+    uint32_t *events, size_t events_len, uint32_t *gaps, size_t gaps_len);
+
+/* A part of a log. */
+typedef struct {
+    uint64_t number; /* 0, 1, 2, 10 or 16 */
+    uint64_t offset; /* where it begins in the log */
+    uint64_t len;    /* how many bytes it has: whole records */
+} potmeander_part;
+
+/* The part of a log with the records, EV and AN, of one hour. Where there are none it is empty, and lies before the first record of a later tick, or at the log's
+ * end where there is none. First the hour is judged: 48 or above is 10. Then the log, whole: 1 or 2, then 16. Each of these has the empty end of the log: the log's
+ * length, and 0. A tick above 3,456,000 is in no hour, and is not refused here. */
+potmeander_part potmeander_hour(const uint8_t *log, size_t log_len, uint64_t hour);
 
 #ifdef __cplusplus
 }
