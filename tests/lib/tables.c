@@ -178,8 +178,8 @@ static void go_beyond(maker *m)
     if (m->count == 0) return;
     unsigned first = one_in(m, 2) ? m->count - 1 : up_to(m, m->count - 1);
     const uint32_t last = LAST_TABLE_TICK;
-    uint32_t tick = (uint32_t)ONE_OF(m, last, last, last + 1, last + 1, last + 1, last + 2, last + HOUR_TICKS, last + HOUR_TICKS + 1,
-                                     0x7FFFFFFF, 0x80000000, 0xFFFFFF00);
+    uint32_t tick = (uint32_t)ONE_OF(m, last, last, last + 1, last + 1, last + 1, last + 2, last + HOUR_TICKS,
+                                     last + HOUR_TICKS + 1, 0x7FFFFFFF, 0x80000000, 0xFFFFFF00);
     for (unsigned i = first; i < m->count; i++) {
         m->of[i].tick = tick;
         if (tick < 0xFFFFFFF0) tick += up_to(m, 2);
