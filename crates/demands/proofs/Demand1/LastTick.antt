@@ -3,6 +3,7 @@
 use Prim.Native.Nat.{ℕ, zero, suc, _+_, _≤_}
 use Rattle.demands.proofs.Demand1.TableInSessions.{by-table}
 use Rattle.demands.proofs.Shared.ByRecords.{by-records}
+use Rattle.demands.proofs.Shared.LogTicks.{every-as, session-upto}
 use Rattle.demands.proofs.Shared.OneInstance.{happen-tick, run-last}
 use Rattle.demands.proofs.Shared.Runs.{comes-refused, comes-taken, session-model}
 use Rattle.demands.specs.Happenings.{asksFor, carried, declare, frame, hold, modelAfter, tick}
@@ -16,7 +17,7 @@ use Rattle.judging.specs.declared.asked.Asked.the-variants.{Declare, Frame, Hol
 use Rattle.judging.specs.declared.asked.Asked.{Asked}
 use Rattle.judging.specs.declared.asked.Refusal.the-variants.{BadSample, BeyondTable, Cut, Full, LateOrSkipped, NoSuchSensor, NoTicks, NotReadyAgain, TimeOver, Undeclared, UnknownMark}
 use Rattle.judging.specs.declared.asked.Refusal.{Refusal}
-use Rattle.record.specs.Log.{AllBytes, Logged}
+use Rattle.record.specs.Log.{AllBytes, Logged, UpTo}
 use Rattle.session.proofs.Kept.{Kept, part-left, refused-kept}
 use Rattle.session.proofs.Records.{ended}
 use Rattle.session.specs.Session.{End, refused, session, step, taken}
@@ -83,6 +84,12 @@ session-reaches m xs room =
     by-records (λ m xs room r. Reaches m r) (λ m room h. h) (λ m xs room m′ log some e. reaches-took m xs room m′ log e)
     (λ m xs room why t m′ log some e. reaches-left m xs room why t m′ log e)
     m xs room
+
+-- nor does a record of its log
+pub log-within : (m : Model) (xs : List ℕ) (room : ℕ) → m .tick ≤ m .last → UpTo (m .last) (session m xs room .log)
+log-within m xs room h =
+    let end = session-reaches m xs room h in
+    every-as (λ r u. omega arith) (session m xs room .log) (session-upto m xs room)
 
 -- ---- where it is the last tick of all, 8 is given before 10 could be
 pub never-10 : (m : Model) (xs : List ℕ) (room : ℕ) → AllBytes xs → m .last ≡ 4294967295 → session m xs room .number ≢ 10

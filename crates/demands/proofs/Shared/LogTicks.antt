@@ -33,7 +33,7 @@ every-append : (P : Logged → Type 0) (a b : List Logged) → Every P a → Eve
 every-append P [] b p q = q
 every-append P (r ∷ a) b p q = (p .0, every-append P a b (p .1) q)
 
-every-as : {P Q : Logged → Type 0} → ((r : Logged) → P r → Q r) → (log : List Logged) → Every P log → Every Q log
+pub every-as : {P Q : Logged → Type 0} → ((r : Logged) → P r → Q r) → (log : List Logged) → Every P log → Every Q log
 every-as f [] p = tt
 every-as f (r ∷ log) p = (f r (p .0), every-as f log (p .1))
 
