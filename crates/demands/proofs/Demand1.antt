@@ -2,6 +2,7 @@
 -- Refusal 9 alone comes per tick: earlier ticks of that record stand, the tick that found no room does nothing."
 -- Assumes nothing.
 mod Bounds
+mod LastTick
 mod NumberNine
 mod PrefixLaw
 mod RefusedRecord
@@ -11,6 +12,7 @@ mod TableOfNumbers
 mod Tells
 use Prim.Native.Nat.{ℕ, _<_, _≤_}
 use Rattle.demands.proofs.Demand1.Bounds.{bounded}
+use Rattle.demands.proofs.Demand1.LastTick.{log-within, never-10, session-last, session-reaches}
 use Rattle.demands.proofs.Demand1.NumberNine.{answer-full, full-tick, tick-full}
 use Rattle.demands.proofs.Demand1.PrefixLaw.{prefix}
 use Rattle.demands.proofs.Demand1.RefusedRecord.{left-off}
@@ -31,7 +33,7 @@ use Rattle.judging.specs.Refusals.{everyNumber, numberOf, refusalNumbers}
 use Rattle.judging.specs.declared.asked.Asked.the-variants.{Frame, Refused, Ticks}
 use Rattle.judging.specs.declared.asked.Refusal.the-variants.{Full}
 use Rattle.judging.specs.declared.asked.Refusal.{Refusal}
-use Rattle.record.specs.Log.{AllBytes, Logged, bytesOf}
+use Rattle.record.specs.Log.{AllBytes, Logged, UpTo, bytesOf}
 use Rattle.session.proofs.Bounds.{reading-within, session-within}
 use Rattle.session.specs.Session.{End, reading, refused, session, step}
 use lib.ListN.{drop, length}
@@ -90,6 +92,20 @@ module _ (m : Model) (xs : List ℕ) (room : ℕ) where
   pub number-by-table : AllBytes xs → 0 < r .number → r .number ≢ 9
       → (why : Refusal) × (r .number ≡ numberOf why) × Given why (drop (r .offset) xs) (r .model)
   number-by-table = by-table m xs room
+
+  -- M-106: the last tick that may be reached is kept, and not passed
+  pub last-kept : r .model .last ≡ m .last
+  last-kept = session-last m xs room
+
+  pub last-reached : m .tick ≤ m .last → r .model .tick ≤ m .last
+  last-reached = session-reaches m xs room
+
+  pub logged-within : m .tick ≤ m .last → UpTo (m .last) (r .log)
+  logged-within = log-within m xs room
+
+  -- and without the hour table no record is refused by 10
+  pub none-by-10 : AllBytes xs → m .last ≡ 4294967295 → r .number ≢ 10
+  none-by-10 = never-10 m xs room
 
 -- from any log that the output holds already
 pub written-from : (most : ℕ) (rest : List ℕ) (room at : ℕ) (m : Model) (log : List Logged) → length (bytesOf log) ≤ room

@@ -32,6 +32,11 @@ unfoldable pub between : (last end : ℕ) → List ℕ → List ℕ
 between last end [] = []
 between last end (t ∷ ts) = noted (ltb last t && leb t end) t ++ between last end ts
 
+-- ticks that rise strictly, all above `last`
+abbrev pub Climbs : (last : ℕ) → List ℕ → Type 0
+Climbs last [] = Unit {0}
+Climbs last (t ∷ ts) = (last < t) × Climbs t ts
+
 -- ---- times of an instance, in ticks: D is its dead time, R the larger of D and its report time
 abbrev pub rulesOf : Instance → Rules
 rulesOf x = rules (x .kind) (x .settings)

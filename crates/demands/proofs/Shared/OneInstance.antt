@@ -6,14 +6,14 @@ use Rattle.demands.specs.Alone.{Present, loadsDtr0, rises}
 use Rattle.demands.specs.Happenings.{Happening, declare, frame, happen, hold, modelAfter, tick}
 use Rattle.demands.specs.Window.{setsIt}
 use Rattle.device.proofs.Instances.{alike, declared-more, held-at, numbered-latch}
-use Rattle.device.proofs.Laws.{declared-dtr0, declared-length, declared-tick, frame-declared, frame-counts, frame-dtr0, frame-ignored, frame-length, frame-loads, frame-tick, held-declared, held-length, numbered-other}
+use Rattle.device.proofs.Laws.{declared-dtr0, declared-last, declared-length, declared-tick, frame-declared, frame-counts, frame-dtr0, frame-ignored, frame-last, frame-length, frame-loads, frame-tick, held-declared, held-length, numbered-other}
 use Rattle.device.specs.Device.{heldModel, instanceAt}
 use Rattle.device.specs.Frame.{counts, frameModel, loads, numberedModel}
 use Rattle.device.specs.declared.model.Model.{Model}
 use Rattle.opcode.specs.Meaning.{isSetting, meant}
 use Rattle.sensor.specs.Tick.{holding, ticked}
 use Rattle.sensor.specs.declared.settings.Sample.{Sample}
-use Rattle.ticks.proofs.Laws.{tick-declared, tick-length}
+use Rattle.ticks.proofs.Laws.{tick-declared, tick-last, tick-length}
 use Rattle.ticks.proofs.Ticked.{tick-at}
 use Rattle.ticks.specs.Tick.{tickModel}
 use borrow.Author.Tests.{eq-eqb}
@@ -34,6 +34,13 @@ module _ (m : Model) where
   happen-tick (frame first second third) = frame-tick m first second third ∙ sym (add-zero (m .tick))
   happen-tick tick = refl
 
+  pub last-kept : (h : Happening) → happen m h .last ≡ m .last
+  unfolding heldModel
+  last-kept (declare type resolution) = declared-last m type resolution
+  last-kept (hold i sample) = refl
+  last-kept (frame first second third) = frame-last m first second third
+  last-kept tick = tick-last m
+
   pub dtr0-kept : (h : Happening) → loadsDtr0 h ≡ false → happen m h .dtr0 ≡ m .dtr0
   unfolding heldModel tickModel
   dtr0-kept (declare type resolution) e = declared-dtr0 m type resolution
@@ -41,7 +48,7 @@ module _ (m : Model) where
   dtr0-kept (frame first second third) e = frame-dtr0 m first second third e
   dtr0-kept tick e = refl
 
-  happen-length : (h : Happening) → length (happen m h .instances) ≡ length (m .instances)
+  pub happen-length : (h : Happening) → length (happen m h .instances) ≡ length (m .instances)
   happen-length (declare type resolution) = declared-length m type resolution
   happen-length (hold i sample) = held-length m i sample
   happen-length (frame first second third) = frame-length m first second third
@@ -62,6 +69,12 @@ pub run-length : (m : Model) (hs : List Happening) → length (modelAfter m hs .
 unfolding modelAfter
 run-length m [] = refl
 run-length m (h ∷ hs) = run-length (happen m h) hs ∙ happen-length m h
+
+-- and the last tick that may be reached
+pub run-last : (m : Model) (hs : List Happening) → modelAfter m hs .last ≡ m .last
+unfolding modelAfter
+run-last m [] = refl
+run-last m (h ∷ hs) = run-last (happen m h) hs ∙ last-kept m h
 
 -- ---- SA, of an instance that is there
 pub held-own : {i : ℕ} {m : Model} (sample : Sample) → Present i m → instanceAt (heldModel m i sample) i ≡ holding (instanceAt m i) sample

@@ -60,7 +60,7 @@ comes-ticks (suc n) done room m log m′ log′ e =
         record { model = c .model; logged = sym (append-assoc log (tickLog m) (logAfter (tickModel m) (replicate n tick))) ∙ c .logged }
     go false f ih = absurd (taken≢refused (sym (rw (f, ticking) at e)))
 
-comes-taken : (a : Asked) (room : ℕ) (m : Model) (log : List Logged) (m′ : Model) (log′ : List Logged) → step a room m log ≡ taken m′ log′
+pub comes-taken : (a : Asked) (room : ℕ) (m : Model) (log : List Logged) (m′ : Model) (log′ : List Logged) → step a room m log ≡ taken m′ log′
     → Comes m log (asksFor a) m′ log′
 unfolding step modelAfter logAfter
 comes-taken (Refused why) room m log m′ log′ e = absurd (taken≢refused (sym e))
@@ -81,7 +81,7 @@ comes-taken (Frame first second third) room m log m′ log′ e = go (fits room 
 comes-taken (Ticks n) room m log m′ log′ e = comes-ticks n 0 room m log m′ log′ e
 
 -- of a refused record, the ticks that were carried out
-comes-refused : (a : Asked) (room : ℕ) (m : Model) (log : List Logged) (why : Refusal) (t : ℕ) (m′ : Model) (log′ : List Logged)
+pub comes-refused : (a : Asked) (room : ℕ) (m : Model) (log : List Logged) (why : Refusal) (t : ℕ) (m′ : Model) (log′ : List Logged)
     → step a room m log ≡ refused why t m′ log′
     → Comes m log (replicate t tick) m′ log′
 unfolding modelAfter logAfter
