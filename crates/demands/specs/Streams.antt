@@ -1,6 +1,7 @@
 -- Document 01, "The bench model": what the small program does. It reads a session in pieces through short buffers: "it goes on from the state
 -- an earlier call left, after number 2 with more input, after 9 with an emptied output and, inside a TK, a TK of the ticks that remain".
 -- Assumes nothing.
+unfoldable pub use Rattle.hours.specs.Pieces.{joined}
 use Prim.Native.Nat.{ℕ, _%_, _+_, _^_}
 use Rattle.device.specs.declared.model.Model.{Model}
 use Rattle.record.specs.Log.{Logged, bytesOf}
@@ -73,11 +74,6 @@ over h = overBy (nextAfter (h .number)) (h .coming)
 unfoldable pub streamed : (rooms : List ℕ) → Held → Held
 streamed [] h = h
 streamed (room ∷ rooms) h = streamed rooms (nextTurn room h)
-
--- all pieces together
-unfoldable pub joined : List (List ℕ) → List ℕ
-joined [] = []
-joined (piece ∷ pieces) = piece ++ joined pieces
 
 -- what it came to, as one call would tell it
 abbrev pub result : Held → End

@@ -1,36 +1,24 @@
 -- Demand 3: the events of an instance in a log, and the window of ticks after one of them.
 -- Assumes nothing.
+unfoldable pub use Rattle.hours.specs.Events.{between, eventsOf}
 use Prim.Native.Nat.{ℕ, _+_, _<_}
 use Rattle.demands.specs.Happenings.{Call, Happening, bytesWritten, carriedOut, declare, frame, happen, hold, modelAfter, tick, ticksIn}
 use Rattle.device.specs.Device.{instanceAt}
 use Rattle.device.specs.Frame.{counts}
 use Rattle.device.specs.declared.model.Model.{Model}
 use Rattle.opcode.specs.Meaning.{isSetting, meant}
-use Rattle.record.specs.Log.{AN, EV, Logged, decoded}
+use Rattle.record.specs.Log.{decoded}
 use Rattle.sensor.specs.Kind.{repeat, rules}
 use Rattle.sensor.specs.Tick.{valid}
 use Rattle.sensor.specs.declared.instance.Instance.{Instance}
 use Rattle.ticks.specs.Tick.{tickLog}
-use Rattle.timers.specs.Pace.{noted}
 use Rattle.timers.specs.Timers.{deadTime, reportTime}
 use Rattle.timers.specs.declared.Rules.{Rules}
-use lib.Dec.{eqb, leb, ltb}
+use lib.Dec.{eqb}
 use lib.ListN.{length}
 use mathlib.Core.Bool.{Bool, false, true, _&&_}
 use mathlib.Core.List.{List, [], _++_, _∷_}
 use mathlib.Core.Path.{_≡_}
-
--- ---- events
--- the ticks of the EV records of instance i in a log
-unfoldable pub eventsOf : (i : ℕ) → List Logged → List ℕ
-eventsOf i [] = []
-eventsOf i (EV t j priority information ∷ log) = noted (eqb j i) t ++ eventsOf i log
-eventsOf i (AN t j answer ∷ log) = eventsOf i log
-
--- of those, the ticks above `last` and up to `end`
-unfoldable pub between : (last end : ℕ) → List ℕ → List ℕ
-between last end [] = []
-between last end (t ∷ ts) = noted (ltb last t && leb t end) t ++ between last end ts
 
 -- ticks that rise strictly, all above `last`
 abbrev pub Climbs : (last : ℕ) → List ℕ → Type 0
