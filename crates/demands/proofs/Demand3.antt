@@ -6,17 +6,21 @@
 mod AfterEvent
 mod FirstEvent
 mod FullSessionWindow
+mod HourTable
 mod SeenFromTimers
 mod WindowEvents
-use Prim.Native.Nat.{ℕ, max, _+_, _/_, _<_, _≤_}
+use Prim.Native.Nat.{ℕ, suc, max, _+_, _/_, _<_, _≤_}
 use Rattle.demands.proofs.Demand3.AfterEvent.{enabled-after, paced-run, started-after}
 use Rattle.demands.proofs.Demand3.FirstEvent.{declared-soon, first-run}
+use Rattle.demands.proofs.Demand3.HourTable.{hour-at-least, hour-at-most, hour-gap}
 use Rattle.demands.proofs.Demand3.WindowEvents.{window-events}
 use Rattle.demands.specs.Alone.{Present}
-use Rattle.demands.specs.Happenings.{Call, Happening, logAfter, ticksIn}
+use Rattle.demands.specs.Happenings.{Call, Happening, bytesWritten, logAfter, ticksIn}
 use Rattle.demands.specs.Window.{D, R, Start, Undisturbed, Window, deviceAfter, events, eventsOf, last, n, rulesOf}
 use Rattle.device.specs.Device.{instanceAt}
 use Rattle.device.specs.declared.model.Model.{Model}
+use Rattle.hours.specs.Table.{before, eventsIn, gapIn}
+use Rattle.record.specs.Log.{decoded}
 use Rattle.sensor.specs.Kind.{repeat, rules, units}
 use Rattle.sensor.specs.declared.instance.Instance.{Instance}
 use Rattle.sensor.specs.declared.kind.Kind.the-variants.{Light}
@@ -59,6 +63,17 @@ module _ {m₀ : Model} {calls : List Call} {i : ℕ} (w : Window m₀ calls i) 
   -- "and no n of such ticks leaves a gap above R": any R ticks in a row, those above a up to a + R, hold one of its events
   pub gapless : (a : ℕ) → last (w .at) ≤ a → a + R x ≤ last (w .at) + n (w .at) → (e : ℕ) × List·Memᴰ e (events (w .at) i) × (a < e) × (e ≤ a + R x)
   gapless = demand-3 .gapless
+
+  -- M-106: demand 3 read off the hour table, in an hour that lies whole in the window; it need not begin at an event, hence the one more
+  module _ (k : ℕ) (starts : last (w .at) ≤ before k) (ends : before (suc k) ≤ last (w .at) + n (w .at)) where
+    pub table-at-least : 72000 / R x ≤ eventsIn i k (decoded (bytesWritten m₀ calls))
+    table-at-least = hour-at-least w k starts ends
+
+    pub table-at-most : eventsIn i k (decoded (bytesWritten m₀ calls)) ≤ 71999 / max (D x) 1 + 1
+    table-at-most = hour-at-most w k starts ends
+
+    pub table-gap : gapIn i k (decoded (bytesWritten m₀ calls)) ≤ R x
+    table-gap = hour-gap w k starts ends
 
   -- "Over 72,000 ticks (an hour) demand 3 gives light defaults 120 to 2,400"
   pub hour-of-defaults : {l : lights.Light} → x .kind ≡ Light l → x .settings .deadtime ≡ 30 → x .settings .report ≡ 30 → n (w .at) ≡ 72000

@@ -1,7 +1,7 @@
 -- DEMAND 3 of the timers alone: just after an event, over any list of causes, the events are paced; and document 01's two hours.
 -- The two counts and the gap are those of events so far apart: `Pace/UpperCount`, `Pace/LowerCount`, `Pace/Gap`.
 -- Assumes nothing.
-mod Apart
+pub mod Apart
 mod Gap
 mod LowerCount
 mod UpperCount
@@ -119,9 +119,13 @@ module _ (r : Rules) (g : Reporting r) where
   spaced [] k last h = omega arith
   spaced (c ∷ cs) k last h = one-more c cs (spaced cs) k last h
 
-  -- DEMAND 3 of the timers: from the timers as an event at tick `last` starts them, over any list of causes
+  -- from the timers as an event at tick `last` starts them, over any list of causes: events so far apart
+  pub timers-spaced : (cs : List Bool) (last : ℕ) → Spaced (max (deadTime r) 1) (reportTime r) last (sendings r (started r) last cs) (last + length cs)
+  timers-spaced cs last = rw started-since (rw add-zero at (spaced cs 0 last positive))
+
+  -- DEMAND 3 of the timers
   pub timers-paced : (cs : List Bool) (last : ℕ) → Paced (deadTime r) (reportTime r) last (length cs) (sendings r (started r) last cs)
-  timers-paced cs last = rw started-since (paced (deadTime r) (reportTime r) last (length cs) _ positive (rw add-zero at (spaced cs 0 last positive)))
+  timers-paced cs last = paced (deadTime r) (reportTime r) last (length cs) _ positive (timers-spaced cs last)
 
 -- ---- document 01's hours: 72,000 ticks from an event on
 pub hour-30-600 : (last : ℕ) (events : List ℕ) → Paced 30 600 last 72000 events → (120 ≤ length events) × (length events ≤ 2400)

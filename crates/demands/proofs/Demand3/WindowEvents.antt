@@ -25,7 +25,7 @@ use native.Mathlib.Nat.{add-zero}
 use native.Mathlib.Omega.{arith}
 
 -- ---- ticks above one number and up to another
-data Within (low high : ℕ) : List ℕ → Type 0 where
+pub data Within (low high : ℕ) : List ℕ → Type 0 where
   none : Within low high []
   more : {t : ℕ} {ts : List ℕ} → low < t → t ≤ high → Within low high ts → Within low high (t ∷ ts)
 
@@ -83,7 +83,7 @@ ticks-cons (frame first second third) hs = omega arith
 ticks-cons tick hs = omega arith
 
 -- TICKS CARRIED OUT ARE THE RISE OF THE TICK NUMBER
-run-ticks : (m : Model) (hs : List Happening) → modelAfter m hs .tick ≡ m .tick + ticksIn hs
+pub run-ticks : (m : Model) (hs : List Happening) → modelAfter m hs .tick ≡ m .tick + ticksIn hs
 unfolding modelAfter ticksIn
 run-ticks m [] = sym (add-zero (m .tick))
 run-ticks m (h ∷ hs) = omega (arith, run-ticks (happen m h) hs, happen-tick m h, ticks-cons h hs)
@@ -95,7 +95,7 @@ logs-within i m (hold j sample) = none
 logs-within i m (frame a b c) = rw (events-frame i m a b c) none
 logs-within i m tick = sweep-within (m .tick) i 0 (take (m .declared) (m .instances))
 
-run-within : (i : ℕ) (m : Model) (hs : List Happening) → Within (m .tick) (m .tick + ticksIn hs) (eventsOf i (logAfter m hs))
+pub run-within : (i : ℕ) (m : Model) (hs : List Happening) → Within (m .tick) (m .tick + ticksIn hs) (eventsOf i (logAfter m hs))
 unfolding logAfter eventsOf
 run-within i m [] = none
 run-within i m (h ∷ hs) =
@@ -106,7 +106,7 @@ run-within i m (h ∷ hs) =
 
 -- THE EVENTS OF A WINDOW, in the bytes of the log: those of its run
 module _ {m₀ : Model} {calls : List Call} {h : Happening} (c : Cut m₀ calls h) (i : ℕ) where
-  log-cut : logAfter m₀ (carriedOut m₀ calls)
+  pub log-cut : logAfter m₀ (carriedOut m₀ calls)
       ≡ logAfter m₀ (c .before)
       ++ (logs (deviceBefore c) h ++ (logAfter (deviceAfter c) (c .during) ++ logAfter (modelAfter (deviceAfter c) (c .during)) (c .later)))
   unfolding logAfter
