@@ -1,9 +1,11 @@
 /* Potmeander: a model of a DALI-2 input device with up to 16 sensor instances (IEC 62386-303, occupancy, and -304, light), for a bench
  * controller.
  *
- * The library has two calls. potmeander_session reads a whole session, what the device is given, from a fresh model, and writes the log, what
- * the device must send and answer. potmeander_compare lays the device's log beside the model's and names the first difference. Any bytes may be
- * given as a session and as a log: a call always returns, it reads nothing outside what it is given, and it writes nothing outside the log.
+ * The library has five calls. potmeander_session reads a whole session, what the device is given, from a fresh model, and writes the log, what
+ * the device must send and answer. potmeander_compare lays the device's log beside the model's and names the first difference. potmeander_hours
+ * fills the hour table of any log, potmeander_hour gives back the part of one hour, and potmeander_session_hours reads a session and fills the
+ * table of its log. Any bytes may be given as a session and as a log: a call always returns, it reads nothing outside what it is given, and it
+ * writes nothing outside the log and the table that it is lent.
  *
  * This page is the manual: 1 the archives, 2 a session, 3 frames, 4 when an event goes out, 5 a log, 6 an example, 7 the numbers, 8 the call
  * for a session, 9 the call for two logs, 10 the hour table. It says in short what is proved; the definitions decide (docs/TRUST.md, 1), and above them
@@ -13,10 +15,11 @@
  * 1. THE ARCHIVES
  *
  * `rt staticlib session` proves the library and makes target/staticlib/libsession.a, for x86-64 (System V ABI), with one exported function:
- * `cc controller.c libsession.a`. `rt staticlib compare` makes libcompare.a likewise, with potmeander_compare; each serves without the other,
- * and both together. The first needs memcpy and nothing else of a C library, the second nothing. They have no variables: nothing is kept from one
- * call to the next, and calls in several threads do not know of each other, as long as they share no log that is written. They allocate nothing. A
- * call uses less than 8 KiB of stack (6,377 bytes were measured), beside what a memcpy that is bound at its first call takes there. A tick takes about a
+ * `cc controller.c libsession.a`. `rt staticlib compare` makes libcompare.a likewise, with potmeander_compare, `rt staticlib hours` libhours.a with
+ * potmeander_hours and potmeander_hour, and `rt staticlib tabled` libtabled.a with potmeander_session_hours; each serves without the others, and all
+ * together. Of a C library the first needs memcpy, the second nothing, the third memset, the fourth both. They have no variables: nothing is kept from
+ * one call to the next, and calls in several threads do not know of each other, as long as they share nothing that is written. They allocate nothing. A
+ * call uses less than 8 KiB of stack (7,817 bytes were measured), beside what a memcpy that is bound at its first call takes there. A tick takes about a
  * microsecond where 16 instances send, and in a long TK about a thousandth of that where none does (docs/COST.md). The header serves C99 and
  * later, and C++.
  *
@@ -46,8 +49,8 @@
  *
  * FR  acts at once, on what the last tick left (part 3).
  *
- * TK  lets ticks pass. The first tick of a session is number 1, the last that may be reached 4,294,967,295. More than 65,535 ticks are several
- *     records.
+ * TK  lets ticks pass. The first tick of a session is number 1, the last that may be reached 4,294,967,295, or with the hour table in use
+ *     (part 10) 3,456,000. More than 65,535 ticks are several records.
  *
  *
  * 3. FRAMES. Frame bytes, opcodes and answers are in hexadecimal, all other numbers in decimal.
@@ -145,10 +148,11 @@ extern "C" {
 
 /* 7. THE NUMBERS by which a record is not taken; there are no others. The session is read up to that record. It changes nothing and writes
  * nothing, and what was logged before it stands; by 9 a TK is refused at a tick, and the ticks before that stand. First it is judged whether
- * there is a mark (2), then whether it is known (1), then whether the record is whole (2), then the record's own numbers, the lowest first. */
+ * there is a mark (2), then whether it is known (1), then whether the record is whole (2), then the record's own numbers, the lowest first, but 10 before
+ * 9. */
 enum {
     POTMEANDER_TAKEN = 0,           /* all records were taken; an empty session too */
-    POTMEANDER_UNKNOWN_MARK = 1,    /* the mark is none of IN, SA, FR, TK; in a log that is compared (part 9), none of EV, AN */
+    POTMEANDER_UNKNOWN_MARK = 1,    /* the mark is none of IN, SA, FR, TK; in a log (parts 9 and 10), none of EV, AN */
     POTMEANDER_CUT = 2,             /* fewer bytes remain than the mark, or the record, needs */
     POTMEANDER_LATE_OR_SKIPPED = 3, /* IN after a record of another kind, or its number is not the next, from 0 */
     POTMEANDER_NO_SUCH_SENSOR = 4,  /* IN: number 16, after 16 others, or a type and resolution that are not modelled */

@@ -1,13 +1,17 @@
 #!/bin/sh
 # A C program calls the library through include/potmeander.h, and gets document 01's log; as C99 and as C++. And what the header says of the
-# archives: the one needs memcpy and nothing else, the other nothing; null with length 0, threads, less than 8 KiB of stack.
+# archives: which of memcpy and memset each needs, and that it needs nothing else; null with length 0, threads, less than 8 KiB of stack.
 set -eu
 cd "$(dirname "$0")/.."
 . tests/lib/build.sh
 c_library session
 c_library compare
+c_library hours
+c_library tabled
 archive=target/staticlib/libsession.a
 comparing=target/staticlib/libcompare.a
+hours=target/staticlib/libhours.a
+tabled=target/staticlib/libtabled.a
 
 c_object "$built/controller.o" tests/controller.c -std=c99 -pedantic
 c_object "$built/controller_cpp.o" tests/controller.c -x c++ -std=c++11 -pedantic
@@ -21,20 +25,30 @@ number 9, offset 23, written 10, ticks 29
 done
 cat "$built/controller.out"
 
-# The archive by itself with a memcpy, and not without one.
+# Each archive by itself, with what it needs and not without.
 echo 'void *memcpy(void *to, const void *from, unsigned long count) { (void)from, (void)count; return to; }' >"$built/memcpy.c"
-c_object "$built/memcpy.o" "$built/memcpy.c" -fno-builtin
-alone() { "$c_tools/bin/ld.lld" -m elf_x86_64 -e potmeander_session -o "$built/alone.out" --whole-archive "$archive" "$@"; }
-alone "$built/memcpy.o"
-if alone 2>/dev/null; then
-    echo 'the archive links without memcpy: what it needs is not seen' >&2
-    exit 1
-fi
-"$c_tools/bin/ld.lld" -m elf_x86_64 -e potmeander_compare -o "$built/alone.out" --whole-archive "$comparing"
+echo 'void *memset(void *to, int byte, unsigned long count) { (void)byte, (void)count; return to; }' >"$built/memset.c"
+for needed in memcpy memset; do
+    c_object "$built/$needed.o" "$built/$needed.c" -fno-builtin
+done
+alone() { entry=$1 && shift && "$c_tools/bin/ld.lld" -m elf_x86_64 -e "$entry" -o "$built/alone.out" --whole-archive "$@"; }
+not_alone() {
+    if alone "$@" 2>/dev/null; then
+        echo "$1 links without what it needs: that is not seen" >&2
+        exit 1
+    fi
+}
+alone potmeander_session "$archive" "$built/memcpy.o"
+not_alone potmeander_session "$archive"
+alone potmeander_compare "$comparing"
+alone potmeander_hours "$hours" "$built/memset.o"
+not_alone potmeander_hours "$hours"
+alone potmeander_session_hours "$tabled" "$built/memcpy.o" "$built/memset.o"
+not_alone potmeander_session_hours "$tabled" "$built/memcpy.o"
 
 c_object "$built/header.o" tests/header.c
 c_object "$built/generator.o" tests/lib/generator.c
-c_program "$built/header" "$built/header.o" "$built/generator.o" "$archive" "$comparing"
+c_program "$built/header" "$built/header.o" "$built/generator.o" "$archive" "$comparing" "$hours" "$tabled"
 c_run "$built/header" >"$built/header.out"
 cat "$built/header.out"
 grep -qx 'null with length 0: as an empty slice' "$built/header.out"

@@ -51,6 +51,16 @@ static void compare_logs(void)
     potmeander_compare(device, sizeof device - 1, model, sizeof model - 1);
 }
 
+/* The calls of the hour table, on the same session and on its log. */
+static void fill_tables(void)
+{
+    static uint32_t events[POTMEANDER_ENTRIES], gaps[POTMEANDER_ENTRIES];
+    potmeander_reading r = potmeander_session_hours(case_read.session, case_read.session_len, log_of_case, case_read.log_len, events,
+                                                    POTMEANDER_ENTRIES, gaps, POTMEANDER_ENTRIES);
+    potmeander_hours(log_of_case, r.written, events, POTMEANDER_ENTRIES, gaps, POTMEANDER_ENTRIES);
+    potmeander_hour(log_of_case, r.written, 0);
+}
+
 static size_t stack_used(void (*call)(void))
 {
     memset(stack, 0xA5, STACK);
@@ -65,7 +75,8 @@ static size_t most_stack(void)
     size_t most = stack_used(compare_logs);
     for (uint64_t seed = 1; seed <= CASES; seed++) {
         case_read = generate(seed, 0);
-        size_t used = stack_used(read_case);
+        size_t used = stack_used(read_case), tables = stack_used(fill_tables);
+        if (used < tables) used = tables;
         if (used > most) most = used;
     }
     return most;
