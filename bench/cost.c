@@ -1,6 +1,6 @@
 /* One run whose cost is measured from outside.
- *   cost first|second INSTANCES quiet|sampled|busy TICKS
- * first is the proved library, second the plain C implementation. All instances are light with resolution 16.
+ *   cost first|table|second INSTANCES quiet|sampled|busy TICKS
+ * first is the proved library, table the same with the hour table, second the plain C implementation. All instances are light with resolution 16.
  * quiet: one sample, and then ticks alone, at the default settings: a report every 600 ticks.
  * sampled: the same, with a new sample for each instance every 20 ticks that stays inside the band.
  * busy: dead time 0, and at every tick a new sample for each instance, which sends an event. */
@@ -78,17 +78,20 @@ int main(int argc, char **argv)
     const load *l = argc == 5 ? named(argv[3]) : NULL;
     unsigned long ticks = argc == 5 ? (unsigned long)strtoull(argv[4], NULL, 10) : 0;
     if (l == NULL || ticks == 0) {
-        printf("usage: cost first|second INSTANCES quiet|sampled|busy TICKS\n");
+        printf("usage: cost first|table|second INSTANCES quiet|sampled|busy TICKS\n");
         return 2;
     }
-    bool first = strcmp(argv[1], "first") == 0;
+    bool first = strcmp(argv[1], "first") == 0, table = strcmp(argv[1], "table") == 0;
     unsigned instances = (unsigned)strtoull(argv[2], NULL, 10);
     session s = make(instances, l, ticks);
     size_t log_len = (size_t)EV_SIZE * instances * (l->at_once ? ticks + 2 : ticks / REPORT + 2); /* never short of room for a tick */
     uint8_t *log = malloc(log_len);
     uint64_t number, written;
-    if (first) {
-        potmeander_reading r = potmeander_session(s.bytes, s.len, log, log_len);
+    if (first || table) {
+        static uint32_t events[POTMEANDER_ENTRIES], gaps[POTMEANDER_ENTRIES];
+        potmeander_reading r = first ? potmeander_session(s.bytes, s.len, log, log_len)
+                                     : potmeander_session_hours(s.bytes, s.len, log, log_len, events, POTMEANDER_ENTRIES, gaps,
+                                                                POTMEANDER_ENTRIES);
         number = r.number, written = r.written;
     } else {
         second_reading r = second_session(s.bytes, s.len, log, log_len);

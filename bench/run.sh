@@ -1,6 +1,6 @@
 #!/bin/sh
 # What a tick, and one widening by itself, cost in the proved library and in the plain C implementation built at -O3 for the same
-# processor, side by side.
+# processor, side by side; and what the hour table adds to a session.
 #   bench/run.sh [whole]
 # On x86-64 it is time, in nanoseconds a tick; elsewhere instructions a tick, counted under the kit's emulator. A cost is the difference of
 # two runs that differ in their number of ticks, or of widenings, alone. The long runs are timed; elsewhere, with `whole`, their
@@ -9,9 +9,10 @@ set -eu
 cd "$(dirname "$0")/.."
 . tests/lib/build.sh
 c_library session
+c_library tabled
 c_object "$built/second3.o" tests/second/second.c -O3
 c_object "$built/cost.o" bench/cost.c -Itests -O3
-c_program "$built/cost" "$built/cost.o" "$built/second3.o" target/staticlib/libsession.a
+c_program "$built/cost" "$built/cost.o" "$built/second3.o" target/staticlib/libsession.a target/staticlib/libtabled.a
 
 # Of the library C can call a session and no widening by itself: for that a repository of crate widen and of one that exports it.
 alone=$built/alone
@@ -108,4 +109,12 @@ row 'one widening, 9 bits to 16' "$(each 5000 "$built/widening" first)" "$(each 
 for hours in 8 48; do
     long ms timed 1000000 "$hours"
     [ -z "$whole" ] || long 'thousand instructions' counted 1000 "$hours"
+done
+
+# The hour table: a long run with it, and the same without.
+printf '\n%-48s %12s %12s %7s\n' 'us in all' 'with table' library ratio
+for load in quiet sampled; do
+    with=$(timed "$built/cost" table 16 "$load" 3456000)
+    without=$(timed "$built/cost" first 16 "$load" 3456000)
+    row "48 hours of 16, $load" $((with / 1000)) $((without / 1000))
 done
