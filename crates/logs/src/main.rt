@@ -4,7 +4,6 @@ mod comparing;
 mod saying;
 mod showing;
 mod source;
-mod words;
 
 fn main() {
     let mut device = [0u8; 65536];
