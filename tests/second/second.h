@@ -49,7 +49,8 @@ typedef struct {
     uint32_t tick;
     uint8_t dtr0;
     uint8_t declared;
-    bool others_read; /* a record of another kind than IN was taken */
+    bool others_read;  /* a record of another kind than IN was taken */
+    bool table_in_use; /* the hour table (02, M-106): number 10 is given; not so in a fresh model */
     second_instance instance[SECOND_INSTANCES];
 } second_model;
 
@@ -63,7 +64,9 @@ second_reading second_session(const uint8_t *session, size_t session_len, uint8_
 
 #ifdef SECOND_FAULTS
 #include "faults.h"
+#include "table_faults.h"
 extern int second_fault; /* the wrong model that is played: 0 none, else one of faults.h */
+extern int table_fault;  /* the wrong table or session with one: 0 none, else one of table_faults.h */
 #endif
 
 #endif

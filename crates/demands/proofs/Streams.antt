@@ -16,7 +16,6 @@ use Rattle.demands.proofs.Streams.StepsAreTurns.{Traced, holding, trace
 use Rattle.demands.proofs.Streams.TurnsEnd.{ends}
 use Rattle.demands.proofs.Streams.TurnsGoOn.{number-over, over-number, streams-from}
 use Rattle.demands.specs.Streams.{AsOne, Held, joined, over, overBy, result, start, streamed, turnBy, turned}
-use Rattle.device.specs.Device.{fresh}
 use Rattle.device.specs.declared.model.Model.{Model}
 use Rattle.record.specs.Log.{bytesOf}
 use Rattle.session.proofs.Room.{nothing-left}
@@ -100,14 +99,14 @@ comes-over m few room enough pieces = ends room enough m few pieces
 -- THE PROGRAM. What it does from turn to turn is promised by the functions of crate `stream`: `begin`, `next_after`, `step` and `goes_on`; and
 -- `Reached` says what steps come to, one after another, whatever came before each and with whatever output. Once no step is left to make, all
 -- the bytes that came and all that were logged are those of one call.
-module _ {steps : ℕ} {p : Progress} {input came log : List ℕ} (r : Reached steps p input came log) (none : Bool) (done : goesOn (p .number) none ≡ false) where
-  abbrev t : Traced p input came log
+module _ {m₀ : Model} {steps : ℕ} {p : Progress} {input came log : List ℕ} (r : Reached m₀ steps p input came log) (none : Bool) (done : goesOn (p .number) none ≡ false) where
+  abbrev t : Traced m₀ p input came log
   t = traced r
 
-  ran : run fresh (t .pieces) (t .rooms) ≡ holding p input [] (t .offset) (t .logged)
-  ran = ap (λ l. run fresh l (t .rooms)) (sym (append-nil (t .pieces))) ∙ t .runs []
+  ran : run m₀ (t .pieces) (t .rooms) ≡ holding p input [] (t .offset) (t .logged)
+  ran = ap (λ l. run m₀ l (t .rooms)) (sym (append-nil (t .pieces))) ∙ t .runs []
 
-  ran-over : over (run fresh (t .pieces) (t .rooms)) ≡ true
+  ran-over : over (run m₀ (t .pieces) (t .rooms)) ≡ true
   unfolding goesOn overBy
   ran-over = rw ran (go (nextAfter (p .number)) done)
     where
@@ -116,17 +115,17 @@ module _ {steps : ℕ} {p : Progress} {input came log : List ℕ} (r : Reached s
       go EmptiedOutput d = sym d
       go Over d = refl
 
-  as-one : {e : End} → e ≡ result (run fresh (t .pieces) (t .rooms)) → AsOne p log e
+  as-one : {e : End} → e ≡ result (run m₀ (t .pieces) (t .rooms)) → AsOne p log e
   as-one is = rw (is, ran) (record { model = refl; number = refl; passed = t .passed; log = t .bytes })
 
   -- of a call with room for what was logged
-  pub program-room : (big : ℕ) → length log ≤ big → AsOne p log (session fresh came big)
+  pub program-room : (big : ℕ) → length log ≤ big → AsOne p log (session m₀ came big)
   program-room big enough =
-      let fits : length (bytesOf (run fresh (t .pieces) (t .rooms) .log)) ≤ big = rw (ran, t .bytes) enough in
-      as-one (ap (λ l. session fresh l big) (sym (t .all)) ∙ streams fresh (t .pieces) (t .rooms) ran-over big fits)
+      let fits : length (bytesOf (run m₀ (t .pieces) (t .rooms) .log)) ≤ big = rw (ran, t .bytes) enough in
+      as-one (ap (λ l. session m₀ l big) (sym (t .all)) ∙ streams m₀ (t .pieces) (t .rooms) ran-over big fits)
 
   -- and of every one call that found room enough, so that its number is not 9
-  pub program-theorem : (big : ℕ) → session fresh came big .number ≢ 9 → AsOne p log (session fresh came big)
+  pub program-theorem : (big : ℕ) → session m₀ came big .number ≢ 9 → AsOne p log (session m₀ came big)
   program-theorem big n =
-      let same : session fresh (joined (t .pieces)) big ≡ session fresh came big = ap (λ l. session fresh l big) (t .all) in
-      as-one (sym same ∙ stream-theorem fresh (t .pieces) (t .rooms) ran-over big (λ nine. n (sym (ap (λ e. e .number) same) ∙ nine)))
+      let same : session m₀ (joined (t .pieces)) big ≡ session m₀ came big = ap (λ l. session m₀ l big) (t .all) in
+      as-one (sym same ∙ stream-theorem m₀ (t .pieces) (t .rooms) ran-over big (λ nine. n (sym (ap (λ e. e .number) same) ∙ nine)))

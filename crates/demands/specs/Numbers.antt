@@ -1,4 +1,4 @@
--- Document 01, "Numbers given when a record is not taken", with M-110: the table, each row as a condition on what is left of a session and on the model.
+-- Document 01, "Numbers given when a record is not taken", with M-106 and M-110: the table, each row as a condition on what is left of a session and on the model.
 -- Order: mark present (2), mark known (1), record whole (2), then the record's own numbers in rising order. And "Session and log records": the
 -- four kinds of a session's records.
 -- Assumes nothing.
@@ -8,7 +8,7 @@ use Rattle.device.specs.Device.{instanceAt}
 use Rattle.device.specs.declared.model.Model.{Model}
 use Rattle.judging.specs.Asked.{asked, sampleIn}
 use Rattle.judging.specs.Refusals.{numberOf}
-use Rattle.judging.specs.declared.asked.Refusal.the-variants.{BadSample, Cut, Full, LateOrSkipped, NoSuchSensor, NoTicks, NotReadyAgain, TimeOver, Undeclared, UnknownMark}
+use Rattle.judging.specs.declared.asked.Refusal.the-variants.{BadSample, BeyondTable, Cut, Full, LateOrSkipped, NoSuchSensor, NoTicks, NotReadyAgain, TimeOver, Undeclared, UnknownMark}
 use Rattle.judging.specs.declared.asked.Refusal.{Refusal}
 use Rattle.record.specs.Log.{Logged, bytesOf}
 use Rattle.record.specs.Marks as marks
@@ -117,6 +117,9 @@ Given NoTicks rest m = TK rest × (markSize Time ≤ length rest) × (word rest 
 Given TimeOver rest m = TK rest × (markSize Time ≤ length rest) × (word rest 2 ≢ 0) × (4294967295 < m .tick + word rest 2)
 -- 9 is a matter of the output that is left, and not of the record alone
 Given Full rest m = ⊥
+-- 10, for TK only, after 7 and 8: a tick beyond the last that may be reached
+Given BeyondTable rest m =
+    TK rest × (markSize Time ≤ length rest) × (word rest 2 ≢ 0) × (m .tick + word rest 2 ≤ 4294967295) × (m .last < m .tick + word rest 2)
 -- 13, for SA only, after 5 and 6: status 1 for an instance that has had a valid sample
 Given NotReadyAgain rest m =
     SA rest × (markSize Measurement ≤ length rest) × Declared m (byte rest 2) × Allowed (instanceAt m (byte rest 2) .kind) (sampleIn rest)

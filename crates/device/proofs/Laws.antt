@@ -69,6 +69,9 @@ module _ (m : Model) (type resolution : ℕ) where
   pub declared-tick : declaredModel m type resolution .tick ≡ m .tick
   declared-tick = declared-by (λ (x : Model). x .tick ≡ m .tick) refl refl
 
+  pub declared-last : declaredModel m type resolution .last ≡ m .last
+  declared-last = declared-by (λ (x : Model). x .last ≡ m .last) refl refl
+
   pub declared-dtr0 : declaredModel m type resolution .dtr0 ≡ m .dtr0
   declared-dtr0 = declared-by (λ (x : Model). x .dtr0 ≡ m .dtr0) refl refl
 
@@ -214,6 +217,10 @@ module _ (m : Model) (first second third : ℕ) where
 
   pub frame-tick : frameModel m first second third .tick ≡ m .tick
   frame-tick = frame-by (λ (x : Model). x .tick ≡ m .tick) refl (numbered-tick m second third) refl
+
+  pub frame-last : frameModel m first second third .last ≡ m .last
+  unfolding numberedModel
+  frame-last = frame-by (λ (x : Model). x .last ≡ m .last) refl refl refl
 
   -- DTR0 is loaded by C1 30 d alone
   pub frame-dtr0 : loads first second ≡ false → frameModel m first second third .dtr0 ≡ m .dtr0

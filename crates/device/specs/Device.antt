@@ -16,24 +16,28 @@ use mathlib.Core.List.{List}
 
 -- ---- the model with one part changed: only these list every part, and other definitions compose them
 abbrev pub withTick : ℕ → Model → Model
-withTick tick m = record { tick = tick; dtr0 = m .dtr0; declared = m .declared; running = m .running; instances = m .instances }
+withTick tick m = record { tick = tick; last = m .last; dtr0 = m .dtr0; declared = m .declared; running = m .running; instances = m .instances }
+
+-- M-106: the last tick that may be reached
+abbrev pub withLast : ℕ → Model → Model
+withLast last m = record { tick = m .tick; last = last; dtr0 = m .dtr0; declared = m .declared; running = m .running; instances = m .instances }
 
 abbrev pub withDtr0 : ℕ → Model → Model
-withDtr0 dtr0 m = record { tick = m .tick; dtr0 = dtr0; declared = m .declared; running = m .running; instances = m .instances }
+withDtr0 dtr0 m = record { tick = m .tick; last = m .last; dtr0 = dtr0; declared = m .declared; running = m .running; instances = m .instances }
 
 abbrev pub withDeclared : ℕ → Model → Model
-withDeclared n m = record { tick = m .tick; dtr0 = m .dtr0; declared = n; running = m .running; instances = m .instances }
+withDeclared n m = record { tick = m .tick; last = m .last; dtr0 = m .dtr0; declared = n; running = m .running; instances = m .instances }
 
 abbrev pub withInstances : List Instance → Model → Model
-withInstances xs m = record { tick = m .tick; dtr0 = m .dtr0; declared = m .declared; running = m .running; instances = xs }
+withInstances xs m = record { tick = m .tick; last = m .last; dtr0 = m .dtr0; declared = m .declared; running = m .running; instances = xs }
 
 -- a record that is no IN was taken, and declarations are over
 abbrev pub underWay : Model → Model
-underWay m = record { tick = m .tick; dtr0 = m .dtr0; declared = m .declared; running = true; instances = m .instances }
+underWay m = record { tick = m .tick; last = m .last; dtr0 = m .dtr0; declared = m .declared; running = true; instances = m .instances }
 
--- the model at the start: tick 0, DTR0 0, no instance declared
+-- the model at the start: tick 0, any tick number may be reached, DTR0 0, no instance declared
 unfoldable pub fresh : Model
-fresh = record { tick = 0; dtr0 = 0; declared = 0; running = false; instances = replicate 16 (sensors.declared 4 1) }
+fresh = record { tick = 0; last = 4294967295; dtr0 = 0; declared = 0; running = false; instances = replicate 16 (sensors.declared 4 1) }
 
 -- ---- who is declared
 unfoldable pub known : Model → (i : ℕ) → Bool

@@ -4,8 +4,10 @@ ghost use Rattle.device.specs.Device.{declaredModel, fresh, known};
 ghost use mathlib.Core.Path.{_≡_};
 
 // running: a record that is no IN was taken, and declarations are over. declared: how many instances are.
+// last: the last tick that may be reached (M-106).
 pub struct Model {
     pub tick: u32,
+    pub last: u32,
     pub dtr0: u8,
     pub declared: u8,
     pub running: bool,
@@ -26,6 +28,7 @@ pub fn fresh() -> Model
     let nobody = Instance::declared(4, 1);
     Model {
         tick: 0,
+        last: 4294967295,
         dtr0: 0,
         declared: 0,
         running: false,

@@ -1,14 +1,14 @@
 -- The record at the front of what is left of a session: what follows it does not matter to it, what it asks for goes by its kind, and its
 -- ticks are within the time that is left.
 -- Assumes nothing.
-use Prim.Native.Nat.{ℕ, max, _-_, _<_, _≤_}
+use Prim.Native.Nat.{ℕ, max, _+_, _-_, _<_, _≤_}
 use Rattle.device.specs.Device.{allowed, instanceAt, known}
 use Rattle.device.specs.declared.model.Model.{Model}
 use Rattle.judging.specs.Asked.{asked, askedBy, declareAsked, frameAsked, sampleAsked, sampleIn, sizeOf, ticksAsked}
 use Rattle.judging.specs.Refusals.{numberOf, refusalNumbers}
 use Rattle.judging.specs.declared.asked.Asked.the-variants.{Declare, Frame, Hold, Refused, Ticks}
 use Rattle.judging.specs.declared.asked.Asked.{Asked}
-use Rattle.judging.specs.declared.asked.Refusal.the-variants.{BadSample, Cut, Full, LateOrSkipped, NoSuchSensor, NoTicks, NotReadyAgain, TimeOver, Undeclared, UnknownMark}
+use Rattle.judging.specs.declared.asked.Refusal.the-variants.{BadSample, BeyondTable, Cut, Full, LateOrSkipped, NoSuchSensor, NoTicks, NotReadyAgain, TimeOver, Undeclared, UnknownMark}
 use Rattle.judging.specs.declared.asked.Refusal.{Refusal}
 use Rattle.record.proofs.Bytes.{all-below}
 use Rattle.record.specs.Log.{AllBytes}
@@ -131,7 +131,9 @@ module _ (rest : List ℕ) (m : Model) (l : 2 ≤ length rest) where
   whole-by Bus = whole-if (markSize Bus) (length rest) _ (inr refl)
   whole-by Time =
       whole-if (markSize Time) (length rest) _
-      (by-test (Sized (markSize Time)) (eqb (word rest 2) 0) _ _ (inl refl) (by-test (Sized (markSize Time)) (ltb (4294967295 - m .tick) (word rest 2)) _ _ (inl refl) (inr refl)))
+      (by-test (Sized (markSize Time)) (eqb (word rest 2) 0) _ _ (inl refl)
+      (by-test (Sized (markSize Time)) (ltb (4294967295 - m .tick) (word rest 2)) _ _ (inl refl)
+      (by-test (Sized (markSize Time)) (ltb (m .last) (m .tick + word rest 2)) _ _ (inl refl) (inr refl))))
 
 -- a mark that is there decides
 pub marked : (rest : List ℕ) (m : Model) → 2 ≤ length rest → asked rest m ≡ askedBy (markOf (word rest 0)) rest m
@@ -208,12 +210,14 @@ module _ (P : Asked → Type 0) (rest : List ℕ) (m : Model)
     (declares : P (Declare (byte rest 3) (byte rest 4)))
     (holds : P (Hold (byte rest 2) (sampleIn rest)))
     (frames : P (Frame (byte rest 2) (byte rest 3) (byte rest 4)))
-    (time : word rest 2 ≤ 4294967295 - m .tick → P (Ticks (word rest 2)))
+    (time : word rest 2 ≤ 4294967295 - m .tick → m .tick + word rest 2 ≤ m .last → P (Ticks (word rest 2)))
   where
-    timely : (b : Bool) → ltb (4294967295 - m .tick) (word rest 2) ≡ b → P (cond b (Refused TimeOver) (Ticks (word rest 2)))
+    timely : (b : Bool) → ltb (4294967295 - m .tick) (word rest 2) ≡ b → (c : Bool) → ltb (m .last) (m .tick + word rest 2) ≡ c
+        → P (cond b (Refused TimeOver) (cond c (Refused BeyondTable) (Ticks (word rest 2))))
     unfolding numberOf
-    timely true e = refuse TimeOver (omega arith)
-    timely false e = time (ltb-false (4294967295 - m .tick) (word rest 2) e)
+    timely true e c f = refuse TimeOver (omega arith)
+    timely false e true f = refuse BeyondTable (omega arith)
+    timely false e false f = time (ltb-false (4294967295 - m .tick) (word rest 2) e) (ltb-false (m .last) (m .tick + word rest 2) f)
 
     kind-by : (k : Mark) → P (askedBy k rest m)
     unfolding askedBy declareAsked sampleAsked frameAsked ticksAsked numberOf
@@ -232,7 +236,7 @@ module _ (P : Asked → Type 0) (rest : List ℕ) (m : Model)
     kind-by Bus = by-test P (ltb (length rest) (markSize Bus)) _ _ (refuse Cut (omega arith)) frames
     kind-by Time =
         by-test P (ltb (length rest) (markSize Time)) _ _ (refuse Cut (omega arith))
-        (by-test P (eqb (word rest 2) 0) _ _ (refuse NoTicks (omega arith)) (timely (ltb (4294967295 - m .tick) (word rest 2)) refl))
+        (by-test P (eqb (word rest 2) 0) _ _ (refuse NoTicks (omega arith)) (timely (ltb (4294967295 - m .tick) (word rest 2)) refl (ltb (m .last) (m .tick + word rest 2)) refl))
 
     pub by-kinds : P (asked rest m)
     unfolding asked numberOf
@@ -247,18 +251,23 @@ ticksOf (Frame first second third) = 0
 ticksOf (Ticks n) = n
 
 -- none but of a TK, whose two bytes count them
-ticks-counted : (P : ℕ → Type 0) → P 0 → (rest : List ℕ) (m : Model) → (word rest 2 ≤ 4294967295 - m .tick → P (word rest 2)) → P (ticksOf (asked rest m))
+ticks-counted : (P : ℕ → Type 0) → P 0 → (rest : List ℕ) (m : Model)
+    → (word rest 2 ≤ 4294967295 - m .tick → m .tick + word rest 2 ≤ m .last → P (word rest 2)) → P (ticksOf (asked rest m))
 ticks-counted P none rest m time = by-kinds (λ a. P (ticksOf a)) rest m (λ why h. none) none none none time
 
 pub time-left : (rest : List ℕ) (m : Model) → ticksOf (asked rest m) ≤ 4294967295 - m .tick
-time-left rest m = ticks-counted (λ n. n ≤ 4294967295 - m .tick) (omega arith) rest m (λ h. h)
+time-left rest m = ticks-counted (λ n. n ≤ 4294967295 - m .tick) (omega arith) rest m (λ h k. h)
+
+-- M-106: and none beyond the last that may be reached
+pub last-left : (rest : List ℕ) (m : Model) → 0 < ticksOf (asked rest m) → m .tick + ticksOf (asked rest m) ≤ m .last
+last-left rest m = ticks-counted (λ n. 0 < n → m .tick + n ≤ m .last) (λ h. absurd (omega arith)) rest m (λ h k some. k)
 
 pub two-bytes : (rest : List ℕ) (m : Model) → AllBytes rest → ticksOf (asked rest m) ≤ 65535
-two-bytes rest m a = ticks-counted (λ n. n ≤ 65535) (omega arith) rest m (λ h. omega (arith, all-below rest 2 a, all-below rest 3 a))
+two-bytes rest m a = ticks-counted (λ n. n ≤ 65535) (omega arith) rest m (λ h k. omega (arith, all-below rest 2 a, all-below rest 3 a))
 
 -- a record that asks for ticks is a TK of that count
 pub count-of : (rest : List ℕ) (m : Model) → 0 < ticksOf (asked rest m) → ticksOf (asked rest m) ≡ word rest 2
-count-of rest m = ticks-counted (λ n. 0 < n → n ≡ word rest 2) (λ h. absurd (omega arith)) rest m (λ h some. refl)
+count-of rest m = ticks-counted (λ n. 0 < n → n ≡ word rest 2) (λ h. absurd (omega arith)) rest m (λ h k some. refl)
 
 pub as-ticks : (a : Asked) → 0 < ticksOf a → a ≡ Ticks (ticksOf a)
 as-ticks (Refused why) h = absurd (omega arith)
@@ -279,6 +288,7 @@ refused-number BadSample = hit refusalNumbers 6 tt
 refused-number NoTicks = hit refusalNumbers 7 tt
 refused-number TimeOver = hit refusalNumbers 8 tt
 refused-number Full = hit refusalNumbers 9 tt
+refused-number BeyondTable = hit refusalNumbers 10 tt
 refused-number NotReadyAgain = hit refusalNumbers 13 tt
 
 pub number-refused : (n : ℕ) → OneOf refusalNumbers n → (why : Refusal) × (n ≡ numberOf why)
@@ -292,7 +302,8 @@ number-refused n (inr (inr (inr (inr (inr (inl e)))))) = (BadSample, e)
 number-refused n (inr (inr (inr (inr (inr (inr (inl e))))))) = (NoTicks, e)
 number-refused n (inr (inr (inr (inr (inr (inr (inr (inl e)))))))) = (TimeOver, e)
 number-refused n (inr (inr (inr (inr (inr (inr (inr (inr (inl e))))))))) = (Full, e)
-number-refused n (inr (inr (inr (inr (inr (inr (inr (inr (inr e))))))))) = (NotReadyAgain, e)
+number-refused n (inr (inr (inr (inr (inr (inr (inr (inr (inr (inl e)))))))))) = (BeyondTable, e)
+number-refused n (inr (inr (inr (inr (inr (inr (inr (inr (inr (inr e)))))))))) = (NotReadyAgain, e)
 
 -- 0 is given only when all records are taken
 pub refused-some : (why : Refusal) → 1 ≤ numberOf why

@@ -1,4 +1,4 @@
--- Document 01, "Session and log records" and "Numbers given when a record is not taken", with M-110: the record at the front of what is left of a
+-- Document 01, "Session and log records" and "Numbers given when a record is not taken", with M-106 and M-110: the record at the front of what is left of a
 -- session, and every refusal but 9. Order: mark present (2), mark known (1), record whole (2), then the record's own numbers rising.
 -- Assumes nothing.
 use Prim.Native.Nat.{ℕ, _+_, _-_, _<_, _^_, _≤_}
@@ -6,7 +6,7 @@ use Rattle.device.specs.Device.{allowed, instanceAt, known}
 use Rattle.device.specs.declared.model.Model.{Model}
 use Rattle.judging.specs.declared.asked.Asked.the-variants.{Declare, Frame, Hold, Refused, Ticks}
 use Rattle.judging.specs.declared.asked.Asked.{Asked}
-use Rattle.judging.specs.declared.asked.Refusal.the-variants.{BadSample, Cut, LateOrSkipped, NoSuchSensor, NoTicks, NotReadyAgain, TimeOver, Undeclared, UnknownMark}
+use Rattle.judging.specs.declared.asked.Refusal.the-variants.{BadSample, BeyondTable, Cut, LateOrSkipped, NoSuchSensor, NoTicks, NotReadyAgain, TimeOver, Undeclared, UnknownMark}
 use Rattle.record.specs.Marks.{markOf, markSize}
 use Rattle.record.specs.Numbers.{byte, triple, word}
 use Rattle.record.specs.declared.marks.Mark.the-variants.{Bus, Declaration, Measurement, Time, Unknown}
@@ -49,7 +49,8 @@ unfoldable pub ticksAsked : List ℕ → Model → Asked
 ticksAsked rest m =
     cond (ltb (length rest) (markSize Time)) (Refused Cut)
     (cond (eqb (word rest 2) 0) (Refused NoTicks)
-    (cond (ltb (4294967295 - m .tick) (word rest 2)) (Refused TimeOver) (Ticks (word rest 2))))
+    (cond (ltb (4294967295 - m .tick) (word rest 2)) (Refused TimeOver)
+    (cond (ltb (m .last) (m .tick + word rest 2)) (Refused BeyondTable) (Ticks (word rest 2)))))
 
 unfoldable pub askedBy : Mark → List ℕ → Model → Asked
 askedBy Unknown rest m = Refused UnknownMark

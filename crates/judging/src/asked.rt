@@ -17,6 +17,7 @@ pub enum Refusal {
     NoTicks,
     TimeOver,
     Full,
+    BeyondTable,
     NotReadyAgain,
 }
 
@@ -43,6 +44,7 @@ pub fn number_of(refusal: Refusal) -> u8
         Refusal::NoTicks => 7,
         Refusal::TimeOver => 8,
         Refusal::Full => 9,
+        Refusal::BeyondTable => 10,
         Refusal::NotReadyAgain => 13,
     }
 }
@@ -136,6 +138,9 @@ fn ticks_asked(rest: &[u8], model: Model) -> Asked
     }
     if 4294967295 - model.tick < n as u32 {
         return Asked::Refused(Refusal::TimeOver);
+    }
+    if model.last < model.tick + n as u32 {
+        return Asked::Refused(Refusal::BeyondTable);
     }
     Asked::Ticks(n)
 }

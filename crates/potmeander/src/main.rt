@@ -6,6 +6,6 @@ mod saying;
 fn main() {
     let mut input = [0u8; 65536];
     let mut output = [0u8; 65536];
-    let r = reading::run(&mut input, &mut output);
+    let r = reading::run(device::fresh(), &mut input, &mut output);
     saying::say(r);
 }

@@ -46,7 +46,7 @@ fn refused(number: u8, offset: u64) {
     }
 }
 
-// Document 01, "Numbers given when a record is not taken", with M-110.
+// Document 01, "Numbers given when a record is not taken", with M-106 and M-110.
 fn words_of(number: u8) {
     match number {
         1 => write(b", mark unknown"),
@@ -57,6 +57,7 @@ fn words_of(number: u8) {
         6 => write(b", SA status or value not allowed"),
         7 => write(b", TK count 0"),
         8 => write(b", tick number would pass 4,294,967,295"),
+        10 => write(b", tick number would pass 3,456,000, the last of the hour table"),
         13 => write(b", SA status 1 for an instance that has had a valid sample"),
         _ => write(b", its log doesn't fit in the output"),
     }

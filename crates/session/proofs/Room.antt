@@ -11,7 +11,7 @@ use Rattle.record.specs.Log.{Logged, bytesOf}
 use Rattle.session.proofs.Kept.{taken≢refused}
 use Rattle.session.proofs.Laws.{ticking-taken}
 use Rattle.session.specs.Session.{Step, fits, refused, step, taken, ticking}
-use Rattle.ticks.proofs.Laws.{tick-tick}
+use Rattle.ticks.proofs.Laws.{tick-last, tick-tick}
 use Rattle.ticks.specs.Tick.{tickLog, tickModel}
 use borrow.Author.Tests.{le-leb}
 use lib.ListN.{length, length-append}
@@ -53,6 +53,7 @@ both-fit room log first more h =
 pub record Ticked (k done big : ℕ) (m : Model) (log : List Logged) (m′ : Model) (log′ : List Logged) : Type 0 where
   pub longer : size log ≤ size log′
   pub rise : m′ .tick ≡ m .tick + k
+  pub last : m′ .last ≡ m .last
   pub onward : size log′ ≤ big → (n : ℕ) → ticking (k + n) done big m log ≡ ticking n (done + k) big m′ log′
 
 pub ticked : (k done room big : ℕ) (m : Model) (log : List Logged) (m′ : Model) (log′ : List Logged) → ticking k done room m log ≡ taken m′ log′
@@ -62,7 +63,7 @@ ticked zero done room big m log m′ log′ e =
     let here : m ≡ m′ = cc in
     let same : log ≡ log′ = cc in
     rw (← here, ← same)
-    (record { longer = omega arith; rise = sym (add-zero (m .tick)); onward = λ h n. ap₂ (λ i j. ticking i j big m log) (zero-add n) (sym (add-zero done)) })
+    (record { longer = omega arith; rise = sym (add-zero (m .tick)); last = refl; onward = λ h n. ap₂ (λ i j. ticking i j big m log) (zero-add n) (sym (add-zero done)) })
 ticked (suc k) done room big m log m′ log′ e =
     go (fits room log (tickLog m)) refl (λ w. ticked k (done + 1) room big (tickModel m) (log ++ tickLog m) m′ log′ w)
   where
@@ -78,6 +79,7 @@ ticked (suc k) done room big m log m′ log′ e =
         record {
           longer = omega (arith, t .longer);
           rise = omega (arith, t .rise, tick-tick m);
+          last = t .last ∙ tick-last m;
           onward =
               λ h n.
               ap (λ j. ticking j done big m log) (more n)

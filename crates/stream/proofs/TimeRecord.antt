@@ -20,11 +20,11 @@ pub count : (n : ℕ) → n / 256 * 256 + n % 256 ≡ n
 count n = omega arith
 
 -- a TK of ticks that can be counted asks for them, whatever follows it
-pub time-asked : (n : ℕ) (ys : List ℕ) (m : Model) → 0 < n → n ≤ 4294967295 - m .tick → asked (ticks n ++ ys) m ≡ Ticks n
+pub time-asked : (n : ℕ) (ys : List ℕ) (m : Model) → 0 < n → n ≤ 4294967295 - m .tick → m .tick + n ≤ m .last → asked (ticks n ++ ys) m ≡ Ticks n
 unfolding askedBy markOf ticksAsked
-time-asked n ys m some h =
+time-asked n ys m some h k =
     marked (ticks n ++ ys) m (omega arith)
-    ∙ rw (le-ltb (length (ticks n ++ ys)) 4 (omega arith), count n, ne-eqb n 0 (λ e. omega arith), le-ltb (4294967295 - m .tick) n h)
+    ∙ rw (le-ltb (length (ticks n ++ ys)) 4 (omega arith), count n, ne-eqb n 0 (λ e. omega arith), le-ltb (4294967295 - m .tick) n h, le-ltb (m .last) (m .tick + n) k)
 
 -- of a record whose first ticks were carried out, what remains is a TK of the others
 pub remaining-ticks : (m : Model) (xs : List ℕ) (t : ℕ) → suc t < ticksOf (asked xs m)

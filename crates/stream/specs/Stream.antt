@@ -2,7 +2,7 @@
 -- and, inside a TK, a TK of the ticks that remain.
 -- Assumes nothing.
 use Prim.Native.Nat.{ℕ, zero, suc, _%_, _+_, _-_, _^_, _≤_, min}
-use Rattle.device.specs.Device.{fresh}
+use Rattle.device.specs.declared.model.Model.{Model}
 use Rattle.record.specs.Log.{bytesOf}
 use Rattle.record.specs.Marks.{markOf, markSize, ticks}
 use Rattle.record.specs.Numbers.{word}
@@ -62,9 +62,9 @@ unfoldable pub recordsIn : List ℕ → ℕ
 recordsIn bytes = recordsUpTo (length bytes) bytes
 
 -- ---- one step
--- at the start: a fresh model, and nothing read
-unfoldable pub begun : Progress
-begun = record { model = fresh; unread = 0; number = 0; records = 0; passed = 0 }
+-- at the start: from any model, and nothing read
+unfoldable pub begun : Model → Progress
+begun m = record { model = m; unread = 0; number = 0; records = 0; passed = 0 }
 
 -- what is held of the input buffer: the unread bytes, and behind them those that came
 abbrev pub held : Progress → (came : ℕ) → (input : List ℕ) → List ℕ
@@ -107,11 +107,11 @@ Comes MoreInput n = Unit {0}
 Comes EmptiedOutput n = n ≡ 0
 Comes Over n = ⊥
 
--- what so many steps come to: p, the input buffer after them, all the bytes that came, and all that were logged. Before each step n bytes
+-- what so many steps from the model m₀ come to: p, the input buffer after them, all the bytes that came, and all that were logged. Before each step n bytes
 -- came behind the unread ones, which stayed, and the output was emptied
-pub data Reached : (steps : ℕ) → (p : Progress) → (input came log : List ℕ) → Type 0 where
-  start : (input : List ℕ) → Reached 0 begun input [] []
-  next : {steps : ℕ} {p : Progress} {input came log : List ℕ} → Reached steps p input came log
+pub data Reached (m₀ : Model) : (steps : ℕ) → (p : Progress) → (input came log : List ℕ) → Type 0 where
+  start : (input : List ℕ) → Reached m₀ 0 (begun m₀) input [] []
+  next : {steps : ℕ} {p : Progress} {input came log : List ℕ} → Reached m₀ steps p input came log
       → (n : ℕ) (filled output : List ℕ) → Comes (nextAfter (p .number)) n → take (p .unread) filled ≡ take (p .unread) input → p .unread + n ≤ length filled
-      → Reached (suc steps) (stepped p n filled output .progress) (inputAfter p n filled output)
+      → Reached m₀ (suc steps) (stepped p n filled output .progress) (inputAfter p n filled output)
       (came ++ slice (p .unread) (p .unread + n) filled) (log ++ take (stepped p n filled output .written) (outputAfter p n filled output))

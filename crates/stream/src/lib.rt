@@ -33,13 +33,12 @@ pub struct Stepped {
     pub written: usize,
 }
 
-// From a fresh model, with nothing read.
-pub fn begin() -> Progress
-    ensures { λ r. ⌜ r ≡ begun ⌝ }
+// From that model, with nothing read.
+pub fn begin(start: Model) -> Progress
+    ensures { λ r. ⌜ r ≡ begun start ⌝ }
 {
-    let model = device::fresh();
     Progress {
-        model,
+        model: start,
         unread: 0,
         number: 0,
         records: 0,

@@ -20,6 +20,10 @@ module _ (m : Model) where
   unfolding tickModel
   tick-tick = refl
 
+  pub tick-last : tickModel m .last ≡ m .last
+  unfolding tickModel
+  tick-last = refl
+
   pub tick-dtr0 : tickModel m .dtr0 ≡ m .dtr0
   unfolding tickModel
   tick-dtr0 = refl

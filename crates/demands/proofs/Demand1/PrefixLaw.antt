@@ -5,7 +5,7 @@ use Rattle.demands.proofs.Shared.ByRecords.{by-records, session-none, s
 use Rattle.demands.proofs.Shared.FirstRecord.{first-same}
 use Rattle.demands.specs.Stands.{behind, stands, takenWhole, timeRecord}
 use Rattle.device.specs.declared.model.Model.{Model}
-use Rattle.judging.proofs.Asking.{asked-size, cut, time-left}
+use Rattle.judging.proofs.Asking.{asked-size, cut, last-left, time-left}
 use Rattle.judging.specs.Asked.{asked, sizeOf}
 use Rattle.judging.specs.Refusals.{numberOf}
 use Rattle.judging.specs.declared.asked.Asked.the-variants.{Ticks}
@@ -59,7 +59,7 @@ unfolding step sizeOf
 stands-left m xs room why zero m′ log k = let (p, q) = same-left k in rw (p, q) (session-none m room)
 stands-left m xs room why (suc t) m′ log k =
     let (fewer, e, full) = part-left k in
-    let a : asked (timeRecord (suc t)) m ≡ Ticks (suc t) = time-asked (suc t) [] m (omega arith) (omega (arith, time-left xs m)) in
+    let a : asked (timeRecord (suc t)) m ≡ Ticks (suc t) = time-asked (suc t) [] m (omega arith) (omega (arith, time-left xs m)) (omega (arith, last-left xs m (omega arith))) in
     let s : step (asked (timeRecord (suc t)) m) room m [] ≡ taken m′ log = ap (λ a. step a room m []) a ∙ e in
     session-taken m (timeRecord (suc t)) room (omega arith) s
     ∙ ap (λ a. behind (sizeOf a) log (session m′ (drop (sizeOf a) (timeRecord (suc t))) (room - length (bytesOf log)))) a

@@ -1,6 +1,6 @@
 -- Each refusal but 9 is given exactly when its row of the table holds.
 -- Assumes nothing.
-use Prim.Native.Nat.{ℕ, _-_, _<_, _^_, _≤_}
+use Prim.Native.Nat.{ℕ, _+_, _-_, _<_, _^_, _≤_}
 use Rattle.demands.proofs.Demand1.Tells.{Tells, fails, holds, tells-and, tells-as, tells-bool, tells-cond, tells-eqb, tells-leb, tells-ltb, tells-not, tells-or}
 use Rattle.demands.proofs.Shared.Marks.{MarkIs, fr-asked, in-asked, mark-is, sa-asked, tk-asked, unknown-mark}
 use Rattle.demands.specs.Numbers.{Allowed, Declared, FR, Given, GoesBack, IN, Late, NoSensor, SA, TK}
@@ -10,7 +10,7 @@ use Rattle.judging.proofs.Asking.{marked}
 use Rattle.judging.specs.Asked.{asked, askedBy, declareAsked, frameAsked, sampleAsked, sampleIn, ticksAsked}
 use Rattle.judging.specs.declared.asked.Asked.the-variants.{Declare, Frame, Hold, Refused, Ticks}
 use Rattle.judging.specs.declared.asked.Asked.{Asked}
-use Rattle.judging.specs.declared.asked.Refusal.the-variants.{BadSample, Cut, Full, LateOrSkipped, NoSuchSensor, NoTicks, NotReadyAgain, TimeOver, Undeclared, UnknownMark}
+use Rattle.judging.specs.declared.asked.Refusal.the-variants.{BadSample, BeyondTable, Cut, Full, LateOrSkipped, NoSuchSensor, NoTicks, NotReadyAgain, TimeOver, Undeclared, UnknownMark}
 use Rattle.judging.specs.declared.asked.Refusal.{Refusal}
 use Rattle.record.specs.Log.{AllBytes}
 use Rattle.record.specs.Marks.{markOf, markSize}
@@ -137,6 +137,14 @@ module _ (rest : List ℕ) (m : Model) where
   given bytes TimeOver (k, h, n, over) =
       tk-asked rest m k ∙ rw (le-ltb (length rest) (markSize Time) h, ne-eqb (word rest 2) 0 n, lt-ltb (4294967295 - m .tick) (word rest 2) (omega arith))
   given bytes Full n = absurd n
+  given bytes BeyondTable (k, h, n, timely, beyond) =
+      tk-asked rest m k
+      ∙ rw (
+        le-ltb (length rest) (markSize Time) h,
+        ne-eqb (word rest 2) 0 n,
+        le-ltb (4294967295 - m .tick) (word rest 2) (omega arith),
+        lt-ltb (m .last) (m .tick + word rest 2) beyond,
+      )
   given bytes NotReadyAgain (k, h, d, a, b) =
       sa-asked rest m k
       ∙ rw (
@@ -201,16 +209,23 @@ module _ (rest : List ℕ) (m : Model) where
 
   tk-says : TK rest → Says (ticksAsked rest m)
   unfolding ticksAsked
-  tk-says k = go (ltb (length rest) (markSize Time)) refl (eqb (word rest 2) 0) refl (ltb (4294967295 - m .tick) (word rest 2)) refl
+  tk-says k =
+      go (ltb (length rest) (markSize Time)) refl (eqb (word rest 2) 0) refl (ltb (4294967295 - m .tick) (word rest 2)) refl
+      (ltb (m .last) (m .tick + word rest 2)) refl
     where
       go : (a : Bool) → ltb (length rest) (markSize Time) ≡ a → (b : Bool) → eqb (word rest 2) 0 ≡ b → (c : Bool) → ltb (4294967295 - m .tick) (word rest 2) ≡ c
-          → Says (cond a (Refused Cut) (cond b (Refused NoTicks) (cond c (Refused TimeOver) (Ticks (word rest 2)))))
-      go true e b f c g = inr (inr (inr (inr (k, ltb-true (length rest) (markSize Time) e))))
-      go false e true f c g = (k, ltb-false (length rest) (markSize Time) e, eqb-true (word rest 2) 0 f)
-      go false e false f true g =
-          let h = ltb-true (4294967295 - m .tick) (word rest 2) g in
+          → (d : Bool) → ltb (m .last) (m .tick + word rest 2) ≡ d
+          → Says (cond a (Refused Cut) (cond b (Refused NoTicks) (cond c (Refused TimeOver) (cond d (Refused BeyondTable) (Ticks (word rest 2))))))
+      go true e b f c g d h = inr (inr (inr (inr (k, ltb-true (length rest) (markSize Time) e))))
+      go false e true f c g d h = (k, ltb-false (length rest) (markSize Time) e, eqb-true (word rest 2) 0 f)
+      go false e false f true g d h =
+          let over = ltb-true (4294967295 - m .tick) (word rest 2) g in
           (k, ltb-false (length rest) (markSize Time) e, eqb-false (word rest 2) 0 f, omega arith)
-      go false e false f false g = tt
+      go false e false f false g true h =
+          let some = eqb-false (word rest 2) 0 f in
+          let timely = ltb-false (4294967295 - m .tick) (word rest 2) g in
+          (k, ltb-false (length rest) (markSize Time) e, some, omega (arith, some), ltb-true (m .last) (m .tick + word rest 2) h)
+      go false e false f false g false h = tt
 
   says : AllBytes rest → Says (asked rest m)
   unfolding asked askedBy

@@ -1,6 +1,6 @@
 -- A record that no row of the table refuses is one of the four kinds, and what is asked for is what its bytes tell of.
 -- Assumes nothing.
-use Prim.Native.Nat.{ℕ, _-_, _<_, _≤_}
+use Prim.Native.Nat.{ℕ, _+_, _-_, _<_, _≤_}
 use Rattle.demands.proofs.Demand1.{number-exactly}
 use Rattle.demands.proofs.Shared.Marks.{MarkIs, fr-asked, in-asked, mark-is, sa-asked, tk-asked}
 use Rattle.demands.specs.Happenings.{Happening, asksFor}
@@ -10,7 +10,7 @@ use Rattle.device.specs.declared.model.Model.{Model}
 use Rattle.judging.specs.Asked.{asked, declareAsked, frameAsked, sampleAsked, sampleIn, sizeOf, ticksAsked}
 use Rattle.judging.specs.declared.asked.Asked.the-variants.{Declare, Frame, Hold, Refused, Ticks}
 use Rattle.judging.specs.declared.asked.Asked.{Asked}
-use Rattle.judging.specs.declared.asked.Refusal.the-variants.{BadSample, Cut, LateOrSkipped, NoSuchSensor, NoTicks, NotReadyAgain, TimeOver, Undeclared, UnknownMark}
+use Rattle.judging.specs.declared.asked.Refusal.the-variants.{BadSample, BeyondTable, Cut, LateOrSkipped, NoSuchSensor, NoTicks, NotReadyAgain, TimeOver, Undeclared, UnknownMark}
 use Rattle.judging.specs.declared.asked.Refusal.{Refusal}
 use Rattle.record.specs.Log.{AllBytes}
 use Rattle.record.specs.Marks.{markOf, markSize}
@@ -77,12 +77,14 @@ module _ (zs : List ℕ) (m : Model) (bytes : AllBytes zs) (none : NoneGiven zs 
   frame-asked true e = absurd (never Cut e)
   frame-asked false e = e
 
-  ticks-asked : (a b c : Bool) → asked zs m ≡ cond a (Refused Cut) (cond b (Refused NoTicks) (cond c (Refused TimeOver) (Ticks (word zs 2))))
+  ticks-asked : (a b c d : Bool)
+      → asked zs m ≡ cond a (Refused Cut) (cond b (Refused NoTicks) (cond c (Refused TimeOver) (cond d (Refused BeyondTable) (Ticks (word zs 2)))))
       → asked zs m ≡ Ticks (word zs 2)
-  ticks-asked true b c e = absurd (never Cut e)
-  ticks-asked false true c e = absurd (never NoTicks e)
-  ticks-asked false false true e = absurd (never TimeOver e)
-  ticks-asked false false false e = e
+  ticks-asked true b c d e = absurd (never Cut e)
+  ticks-asked false true c d e = absurd (never NoTicks e)
+  ticks-asked false false true d e = absurd (never TimeOver e)
+  ticks-asked false false false true e = absurd (never BeyondTable e)
+  ticks-asked false false false false e = e
 
   asks-for : (a : Asked) → 0 < sizeOf a → asked zs m ≡ a → Asks zs m (sizeOf a) (asksFor a)
   asks-for a s e = record { some = rw e s; whole = ap sizeOf e; tells = ap asksFor e }
@@ -100,4 +102,5 @@ module _ (zs : List ℕ) (m : Model) (bytes : AllBytes zs) (none : NoneGiven zs 
   asks (frames k) = asks-for (Frame (byte zs 2) (byte zs 3) (byte zs 4)) (omega arith) (frame-asked (ltb (length zs) (markSize Bus)) (fr-asked zs m k))
   asks (passes k) =
       asks-for (Ticks (word zs 2)) (omega arith)
-      (ticks-asked (ltb (length zs) (markSize Time)) (eqb (word zs 2) 0) (ltb (4294967295 - m .tick) (word zs 2)) (tk-asked zs m k))
+      (ticks-asked (ltb (length zs) (markSize Time)) (eqb (word zs 2) 0) (ltb (4294967295 - m .tick) (word zs 2))
+      (ltb (m .last) (m .tick + word zs 2)) (tk-asked zs m k))

@@ -7,7 +7,7 @@ use Rattle.demands.proofs.Shared.ByRecords.{by-records, session-refused
 use Rattle.demands.proofs.Shared.FirstRecord.{first-extended}
 use Rattle.demands.specs.Stands.{behind, roomAfter, written}
 use Rattle.device.specs.declared.model.Model.{Model}
-use Rattle.judging.proofs.Asking.{alone, as-ticks, asked-size, extended, ticksOf, time-left}
+use Rattle.judging.proofs.Asking.{alone, as-ticks, asked-size, extended, last-left, ticksOf, time-left}
 use Rattle.judging.specs.Asked.{asked, sizeOf}
 use Rattle.judging.specs.Refusals.{numberOf}
 use Rattle.judging.specs.declared.asked.Asked.the-variants.{Ticks}
@@ -79,8 +79,9 @@ module _ (m : Model) (xs ys : List ℕ) (room big t : ℕ) (m′ : Model) (log :
 
   others : asked ((ticks j ++ drop (markSize Time) xs) ++ ys) m′ ≡ Ticks j
   others =
-      let rise = ticked (suc t) 0 room big m [] m′ log stand .rise in
-      time-asked j (drop (markSize Time) xs ++ ys) m′ (omega arith) (omega (arith, time-left xs m))
+      let k = ticked (suc t) 0 room big m [] m′ log stand in
+      time-asked j (drop (markSize Time) xs ++ ys) m′ (omega arith) (omega (arith, k .rise, time-left xs m))
+      (omega (arith, k .rise, k .last, last-left xs m (omega arith)))
 
   steps : step (Ticks n) big m [] ≡ later (suc t) (after-log log (step (Ticks j) (big - size log) m′ []))
   unfolding step

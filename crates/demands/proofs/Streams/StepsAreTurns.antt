@@ -3,7 +3,7 @@
 -- Assumes nothing.
 use Prim.Native.Nat.{ℕ, _%_, _+_, _^_}
 use Rattle.demands.specs.Streams.{Held, joined, nextTurn, start, streamed, turn, turnBy, turned}
-use Rattle.device.specs.Device.{fresh}
+use Rattle.device.specs.declared.model.Model.{Model}
 use Rattle.record.proofs.Log.{bytes-append}
 use Rattle.record.specs.Log.{Logged, bytesOf}
 use Rattle.stream.proofs.Turns.{step-front, step-unread}
@@ -24,12 +24,12 @@ holding p input coming offset log =
     record { model = p .model; unread = take (p .unread) input; coming = coming; number = p .number; offset = offset; log = log }
 
 -- the pieces that came, and the rooms of the turns; the run is the same whatever pieces are to come
-pub record Traced (p : Progress) (input came log : List ℕ) : Type 0 where
+pub record Traced (m₀ : Model) (p : Progress) (input came log : List ℕ) : Type 0 where
   pub pieces : List (List ℕ)
   pub rooms : List ℕ
   pub offset : ℕ
   pub logged : List Logged
-  pub runs : (more : List (List ℕ)) → streamed rooms (start fresh (pieces ++ more)) ≡ holding p input more offset logged
+  pub runs : (more : List (List ℕ)) → streamed rooms (start m₀ (pieces ++ more)) ≡ holding p input more offset logged
   pub all : joined pieces ≡ came
   pub passed : p .passed ≡ offset % 2 ^ 64
   pub bytes : bytesOf logged ≡ log
@@ -85,14 +85,14 @@ unfolding joined
 joined-more [] piece = append-nil piece
 joined-more (p ∷ pieces) piece = ap (λ l. p ++ l) (joined-more pieces piece) ∙ sym (append-assoc p (joined pieces) piece)
 
-module _ {p : Progress} {input came log : List ℕ} (t : Traced p input came log) (n : ℕ) (filled output : List ℕ)
+module _ {m₀ : Model} {p : Progress} {input came log : List ℕ} (t : Traced m₀ p input came log) (n : ℕ) (filled output : List ℕ)
     (kept : take (p .unread) filled ≡ take (p .unread) input) where
   abbrev piece : List ℕ
   piece = slice (p .unread) (p .unread + n) filled
 
   abbrev Next-traced : Type 0
   Next-traced =
-      Traced (after p n filled output) (left p n filled output) (came ++ piece)
+      Traced m₀ (after p n filled output) (left p n filled output) (came ++ piece)
       (log ++ take (stepped p n filled output .written) (outputAfter p n filled output))
 
   bytes-more : bytesOf (t .logged ++ ended p n filled output .log) ≡ log ++ take (stepped p n filled output .written) (outputAfter p n filled output)
@@ -109,8 +109,8 @@ module _ {p : Progress} {input came log : List ℕ} (t : Traced p input came log
         logged = t .logged ++ ended p n filled output .log;
         runs =
             λ more.
-            ap (λ l. streamed (t .rooms ++ (length output ∷ [])) (start fresh l)) (append-assoc (t .pieces) (piece ∷ []) more)
-            ∙ streamed-more (t .rooms) (length output) (start fresh (t .pieces ++ (piece ∷ more)))
+            ap (λ l. streamed (t .rooms ++ (length output ∷ [])) (start m₀ l)) (append-assoc (t .pieces) (piece ∷ []) more)
+            ∙ streamed-more (t .rooms) (length output) (start m₀ (t .pieces ++ (piece ∷ more)))
             ∙ ap (nextTurn (length output)) (t .runs (piece ∷ more))
             ∙ ap (λ k. turnBy k (piece ∷ more) (length output) (holding p input (piece ∷ more) (t .offset) (t .logged))) e
             ∙ step-turn p n filled output (take (p .unread) input ++ piece) (held-piece (p .unread) n filled input kept) more (t .offset) (t .logged);
@@ -132,7 +132,7 @@ module _ {p : Progress} {input came log : List ℕ} (t : Traced p input came log
         logged = t .logged ++ ended p n filled output .log;
         runs =
             λ more.
-            streamed-more (t .rooms) (length output) (start fresh (t .pieces ++ more))
+            streamed-more (t .rooms) (length output) (start m₀ (t .pieces ++ more))
             ∙ ap (nextTurn (length output)) (t .runs more)
             ∙ ap (λ k. turnBy k more (length output) (holding p input more (t .offset) (t .logged))) e
             ∙ step-turn p n filled output (take (p .unread) input) (ap (λ k. take k filled) at ∙ kept) more (t .offset) (t .logged);
@@ -147,7 +147,7 @@ module _ {p : Progress} {input came log : List ℕ} (t : Traced p input came log
   traced-more Over e c = absurd c
 
 -- WHAT STEPS REACH, TURNS COME TO
-pub traced : {steps : ℕ} {p : Progress} {input came log : List ℕ} → Reached steps p input came log → Traced p input came log
+pub traced : {m₀ : Model} {steps : ℕ} {p : Progress} {input came log : List ℕ} → Reached m₀ steps p input came log → Traced m₀ p input came log
 unfolding begun streamed joined bytesOf
 traced (at-start input) =
     record {

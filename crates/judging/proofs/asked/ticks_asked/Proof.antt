@@ -33,9 +33,19 @@ returns-3 : tie.Need-returns-3
 unfolding ticksAsked
 returns-3 c = (rw (le-ltb _ _ (c .before .before .before .before .before .before .if1 .left), ← (c .before .before .before .word .ensures), ne-eqb _ _ (c .before .before .if2 .left), lt-ltb _ _ (c .if3 .taken)), tt)
 
+cast-if4 : tie.Need-cast-if4
+cast-if4 c = search needs
+
+add-if4 : tie.Need-add-if4
+add-if4 c = search needs
+
 returns-4 : tie.Need-returns-4
 unfolding ticksAsked
-returns-4 c = (rw (le-ltb _ _ (c .before .before .before .before .before .before .if1 .left), ← (c .before .before .before .word .ensures), ne-eqb _ _ (c .before .before .if2 .left), le-ltb _ _ (c .if3 .left)), search needs)
+returns-4 c = (rw (le-ltb _ _ (c .before .before .before .before .before .before .before .before .before .if1 .left), ← (c .before .before .before .before .before .before .word .ensures), ne-eqb _ _ (c .before .before .before .before .before .if2 .left), le-ltb _ _ (c .before .before .before .if3 .left), lt-ltb _ _ (c .if4 .taken)), tt)
+
+returns-5 : tie.Need-returns-5
+unfolding ticksAsked
+returns-5 c = (rw (le-ltb _ _ (c .before .before .before .before .before .before .before .before .before .if1 .left), ← (c .before .before .before .before .before .before .word .ensures), ne-eqb _ _ (c .before .before .before .before .before .if2 .left), le-ltb _ _ (c .before .before .before .if3 .left), le-ltb _ _ (c .if4 .left)), search needs)
 
 pub ticks-asked-spec : {M : Type 1} → statement M
 ticks-asked-spec =
@@ -49,4 +59,7 @@ ticks-asked-spec =
     sub-if3
     cast-if3
     returns-3
-    returns-4)
+    cast-if4
+    add-if4
+    returns-4
+    returns-5)
