@@ -3,7 +3,6 @@
 mod comparing;
 mod saying;
 mod showing;
-mod source;
 
 fn main() {
     let mut device = [0u8; 65536];
