@@ -139,6 +139,48 @@ compare_model() {
 # The device's log: the model's, but for one tick. Its event of 72,000 was sent at 71,981, in dead time.
 compare_device() { head -c 144 "$here/compare.model.log" && printf '\000\001\031\055' && tail -c +149 "$here/compare.model.log"; }
 
+# ---- five hours and a half for the hour table: instance 0 occupancy, instance 1 light of 10 bits at the window, instance 2 light of 8 bits at the desk
+minutes() { TK "$(seconds $((60 * $1)))"; }
+
+morning() {
+    IN 0 $occupancy 2
+    IN 1 $light 10
+    IN 2 $light 8
+    set_to F0 01 30  # the window reports every 240 s,
+    set_to 78 02 30  # the desk every 120 s
+
+    # hour 0: nobody, dawn
+    SA 0 $valid $vacant
+    SA 2 $valid 12
+    for lux in 40 60 90 130 180 240; do SA 1 $valid $lux && minutes 10; done
+
+    # hour 1: somebody comes after twenty minutes, the lamp on
+    SA 1 $valid 300
+    minutes 20
+    SA 0 $valid $moving
+    SA 2 $valid 180
+    minutes 40
+
+    # hour 2: the sensor at the desk falls silent
+    SA 2 $failed 0
+    for lux in 380 470 570; do SA 1 $valid $lux && minutes 20; done
+
+    # hour 3: it measures again; the lamp off
+    SA 2 $valid 120
+    SA 0 $valid $still
+    minutes 60
+
+    # hour 4: the room is left after half of it
+    minutes 30
+    SA 0 $valid $vacant
+    minutes 30
+
+    # half of hour 5
+    SA 1 $valid 640
+    minutes 30
+    FR 01 02 8C  # the value at the desk
+}
+
 # ---- one session for each refusal
 refused_1() { IN 0 $light 8 && printf XX; }                      # no such mark
 refused_2() { IN 0 $light 8 && printf 'TK\000'; }                # a record cut short
@@ -170,7 +212,7 @@ refused_13() {
     SA 0 $unready 0
 }
 
-for session in full hour refused_1 refused_2 refused_3 refused_4 refused_5 refused_6 refused_7 refused_8 refused_13; do
+for session in full hour morning refused_1 refused_2 refused_3 refused_4 refused_5 refused_6 refused_7 refused_8 refused_13; do
     $session >"$session.session"
 done
 compare_model >compare.model.session

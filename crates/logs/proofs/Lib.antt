@@ -1,3 +1,2 @@
-mod Coming
 mod Pieces
 mod Turns

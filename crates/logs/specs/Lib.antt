@@ -1,3 +1,2 @@
-pub mod Sources
 pub mod Pieces
 pub mod Laying

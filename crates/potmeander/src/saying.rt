@@ -1,9 +1,12 @@
-// The line on standard error: what was read and logged; the record that was refused, if one was; the read or write that failed, if one did.
+// The line on standard error: what was read and logged; the record that was refused, if one was; the read or write that failed, if one did;
+// the sheets, where they are asked for.
+use crate::printing::Sheets;
 use crate::reading::Came;
 use crate::reading::Ran;
+use crate::reading::refused_by;
 use libc::STDERR_FILENO;
 
-pub fn say(r: Ran) {
+pub fn say(r: Ran, sheets: Sheets) {
     let p = r.progress;
     write(b"potmeander: ");
     so_many(p.records, b" record");
@@ -14,26 +17,10 @@ pub fn say(r: Ran) {
     write(b"; ");
     so_many(r.logged, b" byte");
     write(b" logged");
-    refusal(r);
+    refused(refused_by(r), p.passed);
     failure(r);
+    printed(sheets);
     write(b"\n");
-}
-
-// A record that is cut is refused once no more input can come.
-fn refusal(r: Ran) {
-    let p = r.progress;
-    let came = r.came;
-    match came {
-        Came::End => refused(p.number, p.passed),
-        Came::Bytes => refused_for_good(p.number, p.passed),
-        Came::Failure => refused_for_good(p.number, p.passed),
-    }
-}
-
-fn refused_for_good(number: u8, offset: u64) {
-    if !stream::goes_on(number, false) {
-        refused(number, offset);
-    }
 }
 
 fn refused(number: u8, offset: u64) {
@@ -83,6 +70,24 @@ fn write_failure(lost: u64) {
         write(b"; writing the log failed, ");
         so_many(lost, b" byte");
         write(b" of it lost, and the session was not read further");
+    }
+}
+
+fn printed(sheets: Sheets) {
+    match sheets {
+        Sheets::NotAsked => {}
+        Sheets::Printed(count) => so_many_printed(count),
+        Sheets::Unwritten => write(b"; writing the sheets failed"),
+    }
+}
+
+fn so_many_printed(count: u64) {
+    if count == 0 {
+        write(b"; no instance is declared, and no sheet printed");
+    } else {
+        write(b"; ");
+        so_many(count, b" sheet");
+        write(b" printed");
     }
 }
 
