@@ -1,8 +1,8 @@
 #!/bin/sh
 # Holds what the documents say of the repository as a whole, which no check of one crate shows: which crates, edits that must fail and
 # tests there are (tests/claims.txt); what is assumed (docs/TRUST.md, 3); that each exported function has an `ensures`, no `requires`, and
-# its entry in its crate's Unique, and that crate demands gathers these; of a library that reads or writes (`system NAME`) no promise
-# can say that. It reads the sources and what the check of each crate left in target/, and says all that is wrong.
+# its entry in its crate's Unique, and that crate demands gathers these. It reads the sources and what the check of each crate left in
+# target/, and says all that is wrong.
 set -eu
 cd "$(dirname "$0")/.."
 LC_ALL=C
@@ -53,9 +53,8 @@ awk -F '|' '/^## / { here = /^## 3[.] / } here && /^[|] *`/ { gsub(/[`, ]+/, " "
     sed 's/^ *//; s/ *$//; s/  */ /g' | sort >"$room/claimed"
 : >"$room/found"
 : >"$room/libraries"
-claimed system >"$room/system"
 while read -r name; do
-    [ ! -f "crates/$name/src/lib.rt" ] || [ -f "crates/$name/src/main.rt" ] || grep -qx "$name" "$room/system" || echo "$name" >>"$room/libraries"
+    [ ! -f "crates/$name/src/lib.rt" ] || [ -f "crates/$name/src/main.rt" ] || echo "$name" >>"$room/libraries"
     # where the crate was unchanged, what its check had said is in the file beside it
     log=target/log/$name.out
     ! grep -qs ' (unchanged since it was last proved)$' "$log" || log=target/log/$name.say
@@ -77,7 +76,7 @@ done <"$room/crates"
 sort -o "$room/found" "$room/found"
 same 'in docs/TRUST.md, 3' 'assumed by its check'
 assumed=$(awk '{ n += $2 } END { print n + 0 }' "$room/found")
-# a library's check has no such count: it may name none but the libraries of this repository, and none that reads or writes
+# a library's check has no such count: it may name none but the libraries of this repository
 awk 'NR == FNR { library[$1] = 1; next }
     { sub(/#.*/, ""); name = $0; sub(/ *:.*/, "", name); sub(/^[^:]*:/, "") }
     name in library {

@@ -161,22 +161,23 @@ EV 72000 16 >"$room/input"
 left_out '0: instance 16, tick 72000, hour 0' 16 48
 
 # ---- a session: its log is the same, and its sheets have the types, and the hours up to the one that it reached
-# session STATUS TEXT [LABEL]...: --sheets of the session in $room/input, the log in $room/log
+# session STATUS TEXT SHEETS [LABEL]...: --sheets of the session in $room/input, the log in $room/log
 session() {
-    want=$1 text=$2
-    shift 2
+    want=$1 text=$2 printed=$3
+    shift 3
     status=0
     "$potmeander" --sheets "$room/sheets" "$@" <"$room/input" >"$room/log" 2>"$room/said" || status=$?
-    is "$want" "$text"
+    is "$want" "$text
+potmeander: $(many "$(wc -c <"$room/log" | tr -d ' ')" byte) read; $printed printed"
 }
 "$potmeander" <examples/morning.session >"$room/plain" 2>/dev/null
 cp examples/morning.session "$room/input"
 types='occupancy;light, resolution 10;light, resolution 8'
-session 0 '43 records, 237 bytes read; 396000 ticks; 2238 bytes logged; 3 sheets printed'
+session 0 '43 records, 237 bytes read; 396000 ticks; 2238 bytes logged' '3 sheets of 6 hours'
 cmp "$room/plain" "$room/log"
 printed "$room/sheets" 3 6 -v of='a session' -v reached=396000 -v types="$types"
 cmp examples/morning.sheets "$room/sheets"
-session 0 '43 records, 237 bytes read; 396000 ticks; 2238 bytes logged; 3 sheets printed' --clock 22:15 --daylight -30
+session 0 '43 records, 237 bytes read; 396000 ticks; 2238 bytes logged' '3 sheets of 6 hours' --clock 22:15 --daylight -30
 printed "$room/sheets" 3 6 -v of='a session' -v reached=396000 -v types="$types" -v clock=1305
 cp "$room/log" "$room/input"
 call hours 3 6
@@ -193,27 +194,29 @@ cmp examples/morning.hour_2.log "$room/out"
     SA 2 2 0
     TK 66000
 } >"$room/input"
-session 0 '19 records, 100 bytes read; 216000 ticks; 266000 bytes logged; 4 sheets printed'
+session 0 '19 records, 100 bytes read; 216000 ticks; 266000 bytes logged' '4 sheets of 3 hours'
 light='light, resolution 8'
 printed "$room/sheets" 4 3 -v of='a session' -v reached=216000 -v types="$light;$light;$light;$light"
 # nothing declared; no tick; the last tick of the table, and one more
 : >"$room/input"
-session 0 '0 records, 0 bytes read; 0 ticks; 0 bytes logged; no instance is declared, and no sheet printed'
+call --sheets "$room/sheets"
+is 0 '0 records, 0 bytes read; 0 ticks; 0 bytes logged
+potmeander: no sheet printed: no instance is declared'
 [ ! -s "$room/sheets" ] || fail 'a sheet of nobody'
 IN 0 3 2 >"$room/input"
-session 0 '1 record, 5 bytes read; 0 ticks; 0 bytes logged; 1 sheet printed'
+session 0 '1 record, 5 bytes read; 0 ticks; 0 bytes logged' '1 sheet of 1 hour'
 printed "$room/sheets" 1 1 -v of='a session' -v reached=0 -v types=occupancy
 { IN 0 4 8 && SA 0 0 1 && TK 3456000; } >"$room/input"
-session 0 '55 records, 224 bytes read; 3456000 ticks; 57600 bytes logged; 1 sheet printed'
+session 0 '55 records, 224 bytes read; 3456000 ticks; 57600 bytes logged' '1 sheet of 48 hours'
 printed "$room/sheets" 1 48 -v of='a session' -v reached=3456000 -v types="$light"
 TK 1 >>"$room/input"
-session 1 '55 records, 224 bytes read; 3456000 ticks; 57600 bytes logged; record refused at byte 224: 10, tick number would pass 3,456,000, the last of the hour table; 1 sheet printed'
+session 1 '55 records, 224 bytes read; 3456000 ticks; 57600 bytes logged; record refused at byte 224: 10, tick number would pass 3,456,000, the last of the hour table' '1 sheet of 48 hours'
 printed "$room/sheets" 1 48 -v of='a session, refused at byte 224: 10' -v reached=3456000 -v types="$light"
 cp examples/refused_7.session "$room/input"
-session 1 '3 records, 16 bytes read; 1 tick; 10 bytes logged; record refused at byte 16: 7, TK count 0; 1 sheet printed'
+session 1 '3 records, 16 bytes read; 1 tick; 10 bytes logged; record refused at byte 16: 7, TK count 0' '1 sheet of 1 hour'
 printed "$room/sheets" 1 1 -v of='a session, refused at byte 16: 7' -v reached=1 -v types="$light"
 cp examples/refused_2.session "$room/input"
-session 1 "1 record, 5 bytes read; 0 ticks; 0 bytes logged; record refused at byte 5: $cut; 1 sheet printed"
+session 1 "1 record, 5 bytes read; 0 ticks; 0 bytes logged; record refused at byte 5: $cut" '1 sheet of 1 hour'
 printed "$room/sheets" 1 1 -v of='a session, refused at byte 5: 2' -v reached=0 -v types="$light"
 # sheets that cannot be written, before and after; a log that cannot, which the sheets say
 cp examples/full.session "$room/input"
@@ -225,11 +228,14 @@ is 2 "the sheets cannot be written to $room"
 full='6 records, 32 bytes read; 41 ticks'
 if [ -w /dev/full ]; then
     call --sheets /dev/full
-    is 3 "$full; 28 bytes logged; writing the sheets failed"
+    is 3 "$full; 28 bytes logged
+potmeander: 28 bytes read; writing the sheets failed"
     cmp examples/full.log "$room/out"
 fi
 status=0 && "$potmeander" --sheets "$room/sheets" <examples/full.session >&- 2>"$room/said" || status=$?
-is 3 "$full; 0 bytes logged; writing the log failed, 28 bytes of it lost, and the session was not read further; 1 sheet printed"
+is 3 "$full; 28 bytes logged
+potmeander: writing the log failed: it is not whole
+potmeander: 28 bytes read; 1 sheet of 1 hour printed"
 cp examples/full.log "$room/log"
 printed "$room/sheets" 1 1 -v of='a session whose log could not be written whole' -v reached=41 -v types="$light"
 call --sheets "$room/sheets" --clock 25:00

@@ -1,12 +1,9 @@
-// The line on standard error: what was read and logged; the record that was refused, if one was; the read or write that failed, if one did;
-// the sheets, where they are asked for.
-use crate::printing::Sheets;
+// The line on standard error: what was read and logged; the record that was refused, if one was; the read or write that failed, if one did.
 use crate::reading::Came;
 use crate::reading::Ran;
-use crate::reading::refused_by;
 use libc::STDERR_FILENO;
 
-pub fn say(r: Ran, sheets: Sheets) {
+pub fn say(r: Ran) {
     let p = r.progress;
     write(b"potmeander: ");
     so_many(p.records, b" record");
@@ -17,10 +14,33 @@ pub fn say(r: Ran, sheets: Sheets) {
     write(b"; ");
     so_many(r.logged, b" byte");
     write(b" logged");
-    refused(refused_by(r), p.passed);
+    refusal(r);
     failure(r);
-    printed(sheets);
     write(b"\n");
+}
+
+// A record that is cut is refused once no more input can come.
+fn refusal(r: Ran) {
+    let p = r.progress;
+    refused(refused_by(r), p.passed);
+}
+
+// The number by which a record is refused for good, or 0.
+pub fn refused_by(r: Ran) -> u8 {
+    let p = r.progress;
+    let came = r.came;
+    match came {
+        Came::End => p.number,
+        Came::Bytes => for_good(p.number),
+        Came::Failure => for_good(p.number),
+    }
+}
+
+fn for_good(number: u8) -> u8 {
+    if stream::goes_on(number, false) {
+        return 0;
+    }
+    number
 }
 
 fn refused(number: u8, offset: u64) {
@@ -70,24 +90,6 @@ fn write_failure(lost: u64) {
         write(b"; writing the log failed, ");
         so_many(lost, b" byte");
         write(b" of it lost, and the session was not read further");
-    }
-}
-
-fn printed(sheets: Sheets) {
-    match sheets {
-        Sheets::NotAsked => {}
-        Sheets::Printed(count) => so_many_printed(count),
-        Sheets::Unwritten => write(b"; writing the sheets failed"),
-    }
-}
-
-fn so_many_printed(count: u64) {
-    if count == 0 {
-        write(b"; no instance is declared, and no sheet printed");
-    } else {
-        write(b"; ");
-        so_many(count, b" sheet");
-        write(b" printed");
     }
 }
 
