@@ -212,8 +212,22 @@ refused_13() {
     SA 0 $unready 0
 }
 
-for session in full hour morning refused_1 refused_2 refused_3 refused_4 refused_5 refused_6 refused_7 refused_8 refused_13; do
+# to the last tick of the hour table, and one tick more: taken, but with --sheets refused by 10
+beyond() {
+    IN 0 $light 8
+    set_to FF 00 30  # a report every 255 s
+    SA 0 $valid 100
+    TK 3456000
+    FR 01 00 8C  # its value, at the last tick of hour 47
+    TK 1
+}
+
+# A log whose ticks fall: the clock of a device that was set back.
+falls() { head -c 20 "$here/full.log" && head -c 10 "$here/full.log"; }
+
+for session in full hour morning beyond refused_1 refused_2 refused_3 refused_4 refused_5 refused_6 refused_7 refused_8 refused_13; do
     $session >"$session.session"
 done
 compare_model >compare.model.session
 compare_device >compare.device.log
+falls >falls.log

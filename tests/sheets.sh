@@ -136,6 +136,8 @@ refused "18: $cut"
 refused "10: $falls"
 cp examples/full.session "$room/input"
 refused "0: $unknown"
+cp examples/falls.log "$room/input"
+refused "20: $falls"
 (EV 1 0 && AN 3456001 0 && EV 3456002 0) >"$room/input"
 call hours 1 48
 is 1 'no sheet printed; record refused at byte 10: 10, tick above 3,456,000, the last of 48 hours'
@@ -212,6 +214,9 @@ printed "$room/sheets" 1 48 -v of='a session' -v reached=3456000 -v types="$ligh
 TK 1 >>"$room/input"
 session 1 '55 records, 224 bytes read; 3456000 ticks; 57600 bytes logged; record refused at byte 224: 10, tick number would pass 3,456,000, the last of the hour table' '1 sheet of 48 hours'
 printed "$room/sheets" 1 48 -v of='a session, refused at byte 224: 10' -v reached=3456000 -v types="$light"
+cp examples/beyond.session "$room/input"
+session 1 '58 records, 239 bytes read; 3456000 ticks; 6788 bytes logged; record refused at byte 239: 10, tick number would pass 3,456,000, the last of the hour table' '1 sheet of 48 hours'
+cmp examples/beyond.sheets "$room/sheets"
 cp examples/refused_7.session "$room/input"
 session 1 '3 records, 16 bytes read; 1 tick; 10 bytes logged; record refused at byte 16: 7, TK count 0' '1 sheet of 1 hour'
 printed "$room/sheets" 1 1 -v of='a session, refused at byte 16: 7' -v reached=1 -v types="$light"
