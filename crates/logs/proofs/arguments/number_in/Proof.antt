@@ -1,4 +1,4 @@
--- `words::arguments::number_in` is safe: it stays within the text.
+-- `logs::arguments::number_in` is safe: it stays within the text.
 -- Assumes nothing.
 use Prim.Native.Nat.{_-_, _≤_}
 use Rattle.logs.proofs.arguments.number_in.Statement.{statement}
