@@ -10,7 +10,7 @@ use Rattle.hours.proofs.InHours.{events-entry, hours-sum-all}
 use Rattle.hours.proofs.InParts.{not-refused-whole}
 use Rattle.hours.specs.Table.{before, eventTable, eventsIn, lastTick, sumOver}
 use Rattle.hours.specs.Tallies.{tally, tallyOf}
-use Rattle.record.specs.Log.{EventAbove, Every, Logged, Rises, UpTo, bytesOf}
+use Rattle.record.specs.Log.{EventAbove, Every, Logged, UpTo, bytesOf}
 use Rattle.session.specs.Session.{session}
 use Rattle.tabled.specs.InUse.{inUse}
 use Rattle.timers.specs.Pace.{noted}

@@ -1,23 +1,23 @@
 -- M-106, demand 3 read off the hour table: the hour's events are events of the window, and the gap that the first of them ended began there too.
 -- Assumes nothing.
-use Prim.Native.Nat.{ℕ, suc, _*_, _+_, _/_, _<_, _≤_, max}
+use Prim.Native.Nat.{ℕ, suc, _+_, _/_, _≤_, max}
 use Rattle.demands.proofs.Demand3.AfterEvent.{logged-here, spaced-run}
 use Rattle.demands.proofs.Demand3.WindowEvents.{Within, log-cut, more, none, run-ticks, run-within, window-events}
 use Rattle.demands.proofs.Shared.EventsInLog.{events-append}
 use Rattle.demands.proofs.Shared.OneInstance.{happen-tick}
 use Rattle.demands.proofs.Shared.Runs.{calls-log}
-use Rattle.demands.specs.Happenings.{Call, bytesWritten, logAfter, modelAfter, tick, ticksIn}
+use Rattle.demands.specs.Happenings.{Call, bytesWritten, logAfter, modelAfter, tick}
 use Rattle.demands.specs.Window.{D, R, Window, between, deviceAfter, deviceBefore, events, eventsOf, last, n}
 use Rattle.device.specs.Device.{instanceAt}
 use Rattle.device.specs.declared.model.Model.{Model}
 use Rattle.hours.proofs.Spacing.{Earlier, Later, gap-early, gap-most, hour-least, hour-most}
-use Rattle.hours.specs.Table.{before, eventsIn, gapIn, longest}
+use Rattle.hours.specs.Table.{before, eventsIn, gapIn}
 use Rattle.record.specs.Log.{Logged, decoded}
 use Rattle.sensor.specs.declared.instance.Instance.{Instance}
 use Rattle.ticks.specs.Tick.{tickLog}
 use Rattle.timers.proofs.Pace.Apart.{Spaced}
 use Rattle.timers.specs.Pace.{noted}
-use borrow.Author.Tests.{leb-false, leb-true, lt-leb, le-ltb, ltb-false, ltb-true}
+use borrow.Author.Tests.{leb-false, lt-leb, le-ltb, ltb-false}
 use lib.Dec.{leb, ltb}
 use lib.ListN.{length}
 use mathlib.Core.Bool.{Bool, and-false, false, true, _&&_}
