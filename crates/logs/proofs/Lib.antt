@@ -2,3 +2,4 @@ mod Coming
 mod Within
 mod Pieces
 mod Turns
+mod Tabulated

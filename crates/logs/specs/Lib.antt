@@ -1,3 +1,4 @@
 pub mod Sources
 pub mod Pieces
 pub mod Laying
+pub mod Tabulating
