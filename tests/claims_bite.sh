@@ -76,8 +76,6 @@ edited target/log/vector.out 's/^axioms libc: libc::write (1/axioms libc: libc::
 edited target/log/vector.out 's/libc::write/libc::getpid/' 'vector 1 libc::getpid: assumed by its check'
 edited docs/TRUST.md '/^| `vector`/d' 'vector 1 libc::write: assumed by its check, and not in docs/TRUST.md, 3'
 edited crates.txt 's/^widen:/widen: libc/' 'the library widen names libc'
-edited crates.txt 's/^widen:/widen: words/' 'the library widen names words'
-edited tests/claims.txt '/^system words/d' 'the library words names io'
 edited target/log/widen.out 's/^logic=proved.*/& cache=trusted/' 'target/log/widen.out: the check says cache=trusted'
 edited target/log/widen.out 's/^logic=proved.*/& incremental=trusted/' 'target/log/widen.out: the check says incremental=trusted'
 edited target/log/widen.out '/^logic=proved/d' "target/log/widen.out: no line 'logic=proved ..'"
