@@ -34,6 +34,7 @@ use Rattle.judging.specs.declared.asked.Asked.the-variants.{Frame, Refused, Tic
 use Rattle.judging.specs.declared.asked.Refusal.the-variants.{Full}
 use Rattle.judging.specs.declared.asked.Refusal.{Refusal}
 use Rattle.record.specs.Log.{AllBytes, Logged, UpTo, bytesOf}
+use Rattle.sensor.specs.declared.sensors.Sensor.{Sensor}
 use Rattle.session.proofs.Bounds.{reading-within, session-within}
 use Rattle.session.specs.Session.{End, reading, refused, session, step}
 use lib.ListN.{drop, length}
@@ -130,8 +131,8 @@ pub number-there : (m : Model) (ys zs : List ℕ) (room : ℕ) → session m ys 
 number-there = refused-there
 
 -- 13: "after a valid sample" is what happened. As declared an instance has had none,
-pub none-measured : (m : Model) (type resolution : ℕ) → length (m .instances) ≡ 16 → m .declared < 16
-    → instanceAt (declaredModel m type resolution) (m .declared) .measured ≡ false
+pub none-measured : (m : Model) (sensor : Sensor) → length (m .instances) ≡ 16 → m .declared < 16
+    → instanceAt (declaredModel m sensor) (m .declared) .measured ≡ false
 none-measured = declared-measured
 
 -- and after a session it has had one where it had one before, or where a valid sample was taken for it there

@@ -32,6 +32,7 @@ use Rattle.sensor.proofs.Measured.{tick-unread}
 use Rattle.sensor.specs.Instance.{withMeasured}
 use Rattle.sensor.specs.Tick.{isEvent, ticked}
 use Rattle.sensor.specs.declared.instance.Instance.{Instance}
+use Rattle.sensor.specs.declared.sensors.Sensor.{Sensor}
 use Rattle.sensor.specs.declared.settings.Sample.{Sample}
 use Rattle.session.specs.Session.{End, session, forC}
 use Rattle.ticks.proofs.Ticked.{tick-past}
@@ -77,7 +78,7 @@ module _ (m : Model) where
   pub sample-keeps-others : (i : ℕ) (sample : Sample) (j : ℕ) → j ≢ i → instanceAt (heldModel m i sample) j ≡ instanceAt m j
   sample-keeps-others = held-other m
 
-  pub declaration-keeps-others : (type resolution j : ℕ) → j ≢ m .declared → instanceAt (declaredModel m type resolution) j ≡ instanceAt m j
+  pub declaration-keeps-others : (sensor : Sensor) (j : ℕ) → j ≢ m .declared → instanceAt (declaredModel m sensor) j ≡ instanceAt m j
   declaration-keeps-others = declared-other m
 
   -- "C1 30 d loads DTR0": and changes nothing else, but that declarations are over

@@ -25,6 +25,7 @@ use Rattle.sensor.specs.Kind.{repeat, rules, units}
 use Rattle.sensor.specs.declared.instance.Instance.{Instance}
 use Rattle.sensor.specs.declared.kind.Kind.the-variants.{Light}
 use Rattle.sensor.specs.declared.light.Light as lights
+use Rattle.sensor.specs.declared.sensors.Sensor.{Sensor}
 use Rattle.timers.proofs.Pace.{hour-255-255, hour-30-600}
 use Rattle.timers.specs.Pace.{Paced}
 use Rattle.timers.specs.Timers.{deadTime, reportTime, started}
@@ -93,7 +94,7 @@ module _ {m₀ : Model} {calls : List Call} {i : ℕ} (w : Window m₀ calls i) 
 
 -- What shuts out a log without events: an instance just declared, under the same premises, sends its first event by its first due report,
 -- R ticks on, at the latest. (Light reports as it is declared; the Repeat filter bit of occupancy is 0 until a command sets it.)
-module _ {m₀ : Model} {calls : List Call} {i type resolution : ℕ} (s : Start m₀ calls i type resolution) where
+module _ {m₀ : Model} {calls : List Call} {i : ℕ} {sensor : Sensor} (s : Start m₀ calls i sensor) where
   abbrev declared : Instance
   declared = instanceAt (deviceAfter (s .at)) i
 

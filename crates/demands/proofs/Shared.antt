@@ -6,6 +6,7 @@
 --     FullSession                       document 01's full session
 pub mod Behind
 pub mod ByRecords
+pub mod Declarations
 pub mod EventsInLog
 pub mod FirstRecord
 pub mod FullSession

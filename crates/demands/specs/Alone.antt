@@ -14,14 +14,14 @@ pub record Present (i : ℕ) (m : Model) : Type 0 where
 
 -- the ticks of a happening
 abbrev pub rises : Happening → ℕ
-rises (declare type resolution) = 0
+rises (declare sensor) = 0
 rises (hold i sample) = 0
 rises (frame first second third) = 0
 rises tick = 1
 
 -- a frame C1 30 d
 abbrev pub loadsDtr0 : Happening → Bool
-loadsDtr0 (declare type resolution) = false
+loadsDtr0 (declare sensor) = false
 loadsDtr0 (hold i sample) = false
 loadsDtr0 (frame first second third) = loads first second
 loadsDtr0 tick = false

@@ -8,6 +8,7 @@ use Rattle.judging.specs.Asked.{asked, sizeOf}
 use Rattle.judging.specs.declared.asked.Asked.the-variants.{Declare, Frame, Hold, Refused, Ticks}
 use Rattle.judging.specs.declared.asked.Asked.{Asked}
 use Rattle.record.specs.Log.{Logged, bytesOf}
+use Rattle.sensor.specs.declared.sensors.Sensor.{Sensor}
 use Rattle.sensor.specs.declared.settings.Sample.{Sample}
 use Rattle.session.specs.Session.{refused, session, step, taken}
 use Rattle.ticks.specs.Tick.{tickLog, tickModel}
@@ -15,20 +16,20 @@ use lib.ListN.{drop, length, replicate}
 use mathlib.Core.List.{List, [], _++_, _∷_}
 
 pub data Happening : Type 0 where
-  declare : (type resolution : ℕ) → Happening
+  declare : Sensor → Happening
   hold : (i : ℕ) → Sample → Happening
   frame : (first second third : ℕ) → Happening
   tick : Happening
 
 -- ---- what a happening does to the device, and what it logs
 abbrev pub happen : Model → Happening → Model
-happen m (declare type resolution) = declaredModel m type resolution
+happen m (declare sensor) = declaredModel m sensor
 happen m (hold i sample) = heldModel m i sample
 happen m (frame first second third) = frameModel m first second third
 happen m tick = tickModel m
 
 abbrev pub logs : Model → Happening → List Logged
-logs m (declare type resolution) = []
+logs m (declare sensor) = []
 logs m (hold i sample) = []
 logs m (frame first second third) = frameLog m first second third
 logs m tick = tickLog m
@@ -44,7 +45,7 @@ logAfter m (h ∷ hs) = logs m h ++ logAfter (happen m h) hs
 
 unfoldable pub ticksIn : List Happening → ℕ
 ticksIn [] = 0
-ticksIn (declare type resolution ∷ hs) = ticksIn hs
+ticksIn (declare sensor ∷ hs) = ticksIn hs
 ticksIn (hold i sample ∷ hs) = ticksIn hs
 ticksIn (frame first second third ∷ hs) = ticksIn hs
 ticksIn (tick ∷ hs) = suc (ticksIn hs)
@@ -53,7 +54,7 @@ ticksIn (tick ∷ hs) = suc (ticksIn hs)
 -- what a record that is taken asks for
 abbrev pub asksFor : Asked → List Happening
 asksFor (Refused why) = []
-asksFor (Declare type resolution) = declare type resolution ∷ []
+asksFor (Declare sensor) = declare sensor ∷ []
 asksFor (Hold i sample) = hold i sample ∷ []
 asksFor (Frame first second third) = frame first second third ∷ []
 asksFor (Ticks n) = replicate n tick

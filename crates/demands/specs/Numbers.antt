@@ -18,6 +18,8 @@ use Rattle.record.specs.declared.marks.Mark.the-variants.{Bus, Declaration, Mea
 use Rattle.sensor.specs.declared.instance.Instance.{Instance}
 use Rattle.sensor.specs.declared.kind.Kind.the-variants.{Light, Occupancy}
 use Rattle.sensor.specs.declared.kind.Kind.{Kind}
+use Rattle.sensor.specs.declared.sensors.Sensor.the-variants as sensors
+use Rattle.sensor.specs.declared.sensors.Sensor.{Sensor}
 use Rattle.sensor.specs.declared.settings.Sample.{Sample}
 use Rattle.session.specs.Session.{End, refused, session, step}
 use Rattle.ticks.specs.Tick.{tickLog}
@@ -44,10 +46,15 @@ FR rest = Marked marks.FR rest
 abbrev pub TK : List ℕ → Type 0
 TK rest = Marked marks.TK rest
 
+-- what a declaration names, by its mark, its type and its resolution
+abbrev pub Names : List ℕ → Sensor → Type 0
+Names rest sensors.Occupancy = IN rest × (byte rest 3 ≡ 3) × (byte rest 4 ≡ 2)
+Names rest (sensors.Light resolution) = IN rest × (byte rest 3 ≡ 4) × (byte rest 4 ≡ resolution) × (1 ≤ resolution) × (resolution ≤ 24)
+
 -- ---- the four kinds: the record at the front of `rest` by its mark, its size, and what it tells of
 pub data Front (rest : List ℕ) : (size : ℕ) → List Happening → Type 0 where
   -- IN: instance number, type, resolution
-  declares : IN rest → Front rest (markSize Declaration) (declare (byte rest 3) (byte rest 4) ∷ [])
+  declares : (sensor : Sensor) → Names rest sensor → Front rest (markSize Declaration) (declare sensor ∷ [])
   -- SA: instance, status, value (3 bytes)
   holds : SA rest → Front rest (markSize Measurement) (hold (byte rest 2) (sampleIn rest) ∷ [])
   -- FR: the three frame bytes
@@ -83,7 +90,7 @@ GoesBack x sample = (x .measured ≡ true) × (sample .status ≡ 1)
 
 -- what happened is a valid sample for instance i: an SA with status 0 that was taken
 abbrev pub measures : (i : ℕ) → Happening → Bool
-measures i (declare type resolution) = false
+measures i (declare sensor) = false
 measures i (hold j sample) = eqb j i && eqb (sample .status) 0
 measures i (frame first second third) = false
 measures i tick = false

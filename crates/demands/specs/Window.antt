@@ -11,6 +11,7 @@ use Rattle.record.specs.Log.{decoded}
 use Rattle.sensor.specs.Kind.{repeat, rules}
 use Rattle.sensor.specs.Tick.{valid}
 use Rattle.sensor.specs.declared.instance.Instance.{Instance}
+use Rattle.sensor.specs.declared.sensors.Sensor.{Sensor}
 use Rattle.ticks.specs.Tick.{tickLog}
 use Rattle.timers.specs.Timers.{deadTime, reportTime}
 use Rattle.timers.specs.declared.Rules.{Rules}
@@ -41,7 +42,7 @@ abbrev pub setsIt : (i : ℕ) → Model → (first second third : ℕ) → Bool
 setsIt i m first second third = (counts m first second && eqb second i) && isSetting (meant (instanceAt m i .kind) third)
 
 abbrev pub Calm : (i : ℕ) → Model → Happening → Type 0
-Calm i m (declare type resolution) = Unit {0}
+Calm i m (declare sensor) = Unit {0}
 Calm i m (hold j sample) = Unit {0}
 Calm i m (frame first second third) = setsIt i m first second third ≡ false
 Calm i m tick = valid (instanceAt m i) ≡ true
@@ -88,8 +89,8 @@ pub record Window (m₀ : Model) (calls : List Call) (i : ℕ) : Type 0 where
   pub undisturbed : Undisturbed i (deviceAfter at) (at .during)
 
 -- the window after an IN that declared instance i
-pub record Start (m₀ : Model) (calls : List Call) (i type resolution : ℕ) : Type 0 where
-  pub at : Cut m₀ calls (declare type resolution)
+pub record Start (m₀ : Model) (calls : List Call) (i : ℕ) (sensor : Sensor) : Type 0 where
+  pub at : Cut m₀ calls (declare sensor)
   pub next : i ≡ deviceBefore at .declared
   pub there : i < 16
   pub sixteen : length (m₀ .instances) ≡ 16

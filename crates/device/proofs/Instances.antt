@@ -16,6 +16,7 @@ use Rattle.sensor.specs.Fresh as sensors
 use Rattle.sensor.specs.Instance.{withLatch}
 use Rattle.sensor.specs.Tick.{holding}
 use Rattle.sensor.specs.declared.instance.Instance.{Instance}
+use Rattle.sensor.specs.declared.sensors.Sensor.{Sensor}
 use Rattle.sensor.specs.declared.settings.Sample.{Sample}
 use lib.ListN.{length}
 use lib.Seq.{getD-set-same, set-out}
@@ -31,12 +32,12 @@ unfolding heldModel instanceAt
 held-at m i sample listed = getD-set-same (m .instances) i _ sensors.blank listed
 
 -- ---- IN: instances are declared, and never less
-pub declared-more : (m : Model) (type resolution : ℕ) → m .declared ≤ declaredModel m type resolution .declared
-declared-more m type resolution = by (decLe 16 (m .declared))
+pub declared-more : (m : Model) (sensor : Sensor) → m .declared ≤ declaredModel m sensor .declared
+declared-more m sensor = by (decLe 16 (m .declared))
   where
-    by : Dec (16 ≤ m .declared) → m .declared ≤ declaredModel m type resolution .declared
-    by (yes h) = rw (declared-full m type resolution h) (omega arith)
-    by (no h) = omega (arith, declared-next m type resolution (omega arith))
+    by : Dec (16 ≤ m .declared) → m .declared ≤ declaredModel m sensor .declared
+    by (yes h) = rw (declared-full m sensor h) (omega arith)
+    by (no h) = omega (arith, declared-next m sensor (omega arith))
 
 -- ---- FR: what a frame leaves of an instance, and how much it logs
 pub alike : {x y : Instance} → y ≡ x → ButLatch x y

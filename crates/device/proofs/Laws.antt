@@ -8,6 +8,7 @@ use Rattle.record.specs.Log.{Logged, bytesOf}
 use Rattle.sensor.proofs.Laws.{both}
 use Rattle.sensor.specs.Fresh as sensors
 use Rattle.sensor.specs.Tick.{holding}
+use Rattle.sensor.specs.declared.sensors.Sensor.{Sensor}
 use Rattle.sensor.specs.declared.settings.Sample.{Sample}
 use borrow.Author.Tests.{le-leb, le-ltb, lt-leb, lt-ltb, ltb-true}
 use lib.Dec.{eqb, ltb}
@@ -54,58 +55,58 @@ fresh-length = refl
 
 -- ---- IN
 -- the model with the next instance
-abbrev enlarged : Model → (type resolution : ℕ) → Model
-enlarged m type resolution = withDeclared (m .declared + 1) (withInstance (m .declared) (sensors.declared type resolution) m)
+abbrev enlarged : Model → Sensor → Model
+enlarged m sensor = withDeclared (m .declared + 1) (withInstance (m .declared) (sensors.declared sensor) m)
 
-module _ (m : Model) (type resolution : ℕ) where
-  declared-by : (P : Model → Type 0) → P (enlarged m type resolution) → P m → P (declaredModel m type resolution)
+module _ (m : Model) (sensor : Sensor) where
+  declared-by : (P : Model → Type 0) → P (enlarged m sensor) → P m → P (declaredModel m sensor)
   unfolding declaredModel
   declared-by P next full = go (ltb (m .declared) 16)
     where
-      go : (b : Bool) → P (cond b (enlarged m type resolution) m)
+      go : (b : Bool) → P (cond b (enlarged m sensor) m)
       go true = next
       go false = full
 
-  pub declared-tick : declaredModel m type resolution .tick ≡ m .tick
+  pub declared-tick : declaredModel m sensor .tick ≡ m .tick
   declared-tick = declared-by (λ (x : Model). x .tick ≡ m .tick) refl refl
 
-  pub declared-last : declaredModel m type resolution .last ≡ m .last
+  pub declared-last : declaredModel m sensor .last ≡ m .last
   declared-last = declared-by (λ (x : Model). x .last ≡ m .last) refl refl
 
-  pub declared-dtr0 : declaredModel m type resolution .dtr0 ≡ m .dtr0
+  pub declared-dtr0 : declaredModel m sensor .dtr0 ≡ m .dtr0
   declared-dtr0 = declared-by (λ (x : Model). x .dtr0 ≡ m .dtr0) refl refl
 
-  pub declared-next : m .declared < 16 → declaredModel m type resolution .declared ≡ m .declared + 1
+  pub declared-next : m .declared < 16 → declaredModel m sensor .declared ≡ m .declared + 1
   unfolding declaredModel
   declared-next h = rw (lt-ltb (m .declared) 16 h)
 
-  pub declared-running : declaredModel m type resolution .running ≡ m .running
+  pub declared-running : declaredModel m sensor .running ≡ m .running
   declared-running = declared-by (λ (x : Model). x .running ≡ m .running) refl refl
 
-  pub declared-length : length (declaredModel m type resolution .instances) ≡ length (m .instances)
+  pub declared-length : length (declaredModel m sensor .instances) ≡ length (m .instances)
   declared-length =
       declared-by (λ (x : Model). length (x .instances) ≡ length (m .instances))
-      (length-set (m .instances) (m .declared) (sensors.declared type resolution)) refl
+      (length-set (m .instances) (m .declared) (sensors.declared sensor)) refl
 
   -- there is no seventeenth
-  pub declared-full : 16 ≤ m .declared → declaredModel m type resolution ≡ m
+  pub declared-full : 16 ≤ m .declared → declaredModel m sensor ≡ m
   unfolding declaredModel
   declared-full h = rw (le-ltb (m .declared) 16 h)
 
   -- the next instance is of that type
   pub declared-here : length (m .instances) ≡ 16 → m .declared < 16
-      → instanceAt (declaredModel m type resolution) (m .declared) ≡ sensors.declared type resolution
+      → instanceAt (declaredModel m sensor) (m .declared) ≡ sensors.declared sensor
   unfolding declaredModel instanceAt
   declared-here all h =
       let w : m .declared < length (m .instances) = omega arith in
-      rw (lt-ltb (m .declared) 16 h) (getD-set-same (m .instances) (m .declared) (sensors.declared type resolution) sensors.blank w)
+      rw (lt-ltb (m .declared) 16 h) (getD-set-same (m .instances) (m .declared) (sensors.declared sensor) sensors.blank w)
 
   -- and every other is as it was
-  pub declared-other : (j : ℕ) → j ≢ m .declared → instanceAt (declaredModel m type resolution) j ≡ instanceAt m j
+  pub declared-other : (j : ℕ) → j ≢ m .declared → instanceAt (declaredModel m sensor) j ≡ instanceAt m j
   unfolding instanceAt
   declared-other j ne =
       declared-by (λ (x : Model). getD (x .instances) j sensors.blank ≡ getD (m .instances) j sensors.blank)
-      (getD-set-other (m .instances) (m .declared) j (sensors.declared type resolution) sensors.blank ne) refl
+      (getD-set-other (m .instances) (m .declared) j (sensors.declared sensor) sensors.blank ne) refl
 
 -- ---- SA
 module _ (m : Model) (i : ℕ) (sample : Sample) where

@@ -8,6 +8,8 @@ use Rattle.sensor.specs.Fresh as sensors
 use Rattle.sensor.specs.Kind.{allows}
 use Rattle.sensor.specs.Tick.{holding}
 use Rattle.sensor.specs.declared.instance.Instance.{Instance}
+use Rattle.sensor.specs.declared.sensors.Sensor.the-variants.{Light}
+use Rattle.sensor.specs.declared.sensors.Sensor.{Sensor}
 use Rattle.sensor.specs.declared.settings.Sample.{Sample}
 use lib.Dec.{leb, ltb}
 use lib.ListN.{getD, length, replicate, set}
@@ -37,7 +39,7 @@ underWay m = record { tick = m .tick; last = m .last; dtr0 = m .dtr0; declared =
 
 -- the model at the start: tick 0, any tick number may be reached, DTR0 0, no instance declared
 unfoldable pub fresh : Model
-fresh = record { tick = 0; last = 4294967295; dtr0 = 0; declared = 0; running = false; instances = replicate 16 (sensors.declared 4 1) }
+fresh = record { tick = 0; last = 4294967295; dtr0 = 0; declared = 0; running = false; instances = replicate 16 (sensors.declared (Light 1)) }
 
 -- ---- who is declared
 unfoldable pub known : Model → (i : ℕ) → Bool
@@ -51,11 +53,11 @@ instanceAt m i = getD (m .instances) i sensors.blank
 abbrev pub withInstance : (i : ℕ) → Instance → Model → Model
 withInstance i x m = withInstances (set (m .instances) i x) m
 
--- IN: the next instance; there is no seventeenth
-unfoldable pub declaredModel : Model → (type resolution : ℕ) → Model
-declaredModel m type resolution =
+-- a declaration: the next instance is that sensor; there is no seventeenth
+unfoldable pub declaredModel : Model → Sensor → Model
+declaredModel m sensor =
     cond (ltb (m .declared) 16)
-    (withDeclared (m .declared + 1) (withInstance (m .declared) (sensors.declared type resolution) m))
+    (withDeclared (m .declared + 1) (withInstance (m .declared) (sensors.declared sensor) m))
     m
 
 -- the sample is one that instance i's type takes; of an instance that there cannot be, none is

@@ -1,5 +1,6 @@
 // The device by value, and who is declared.
 use sensor::Instance;
+use sensor::Sensor;
 ghost use Rattle.device.specs.Device.{declaredModel, fresh, known};
 ghost use mathlib.Core.Path.{_≡_};
 
@@ -25,7 +26,7 @@ pub struct Offered {
 pub fn fresh() -> Model
     ensures { λ r. ⌜ r ≡ fresh ⌝ }
 {
-    let nobody = Instance::declared(4, 1);
+    let nobody = Instance::declared(Sensor::Light { resolution: 1 });
     Model {
         tick: 0,
         last: 4294967295,
@@ -43,15 +44,15 @@ pub fn known(model: Model, instance: u8) -> bool
     (instance < model.declared) & (instance < 16)
 }
 
-// IN: the next instance, of that type. There is no seventeenth.
-pub fn declare(model: Model, sensor_type: u8, resolution: u8) -> Model
-    ensures { λ r. ⌜ r ≡ declaredModel model «sensor_type» resolution ⌝ }
+// A declaration: the next instance is that sensor. There is no seventeenth.
+pub fn declare(model: Model, sensor: Sensor) -> Model
+    ensures { λ r. ⌜ r ≡ declaredModel model sensor ⌝ }
 {
     let next = model.declared;
     let i = next as usize;
     let mut m = model;
     if i < 16 {
-        let x = Instance::declared(sensor_type, resolution);
+        let x = Instance::declared(sensor);
         m.instances[i] = x;
         m.declared = next + 1;
     }

@@ -4,25 +4,27 @@
 use Prim.Native.Nat.{ℕ, max, _+_, _-_, _<_, _≤_}
 use Rattle.device.specs.Device.{allowed, instanceAt, known}
 use Rattle.device.specs.declared.model.Model.{Model}
-use Rattle.judging.specs.Asked.{asked, askedBy, declareAsked, frameAsked, sampleAsked, sampleIn, sizeOf, ticksAsked}
+use Rattle.judging.specs.Asked.{asked, askedBy, declareAsked, declaredIn, frameAsked, sampleAsked, sampleIn, sensorAsked, sizeOf, ticksAsked}
 use Rattle.judging.specs.Refusals.{numberOf, refusalNumbers}
 use Rattle.judging.specs.declared.asked.Asked.the-variants.{Declare, Frame, Hold, Refused, Ticks}
 use Rattle.judging.specs.declared.asked.Asked.{Asked}
 use Rattle.judging.specs.declared.asked.Refusal.the-variants.{BadSample, BeyondTable, Cut, Full, LateOrSkipped, NoSuchSensor, NoTicks, NotReadyAgain, TimeOver, Undeclared, UnknownMark}
 use Rattle.judging.specs.declared.asked.Refusal.{Refusal}
+use Rattle.judging.specs.declared.declaring.Declares.the-variants.{Nothing, One}
+use Rattle.judging.specs.declared.declaring.Declares.{Declares}
 use Rattle.record.proofs.Bytes.{all-below}
 use Rattle.record.specs.Log.{AllBytes}
 use Rattle.record.specs.Marks.{markOf, markSize}
 use Rattle.record.specs.Numbers.{byte, word}
 use Rattle.record.specs.declared.marks.Mark.the-variants.{Bus, Declaration, Measurement, Time, Unknown}
 use Rattle.record.specs.declared.marks.Mark.{Mark}
-use Rattle.sensor.specs.Kind.{modelled}
 use Rattle.sensor.specs.Tick.{goesBack}
+use Rattle.sensor.specs.declared.sensors.Sensor.{Sensor}
 use borrow.Author.Tests.{le-ltb, ltb-false}
 use lib.Dec.{eqb, ltb}
 use lib.ListN.{List·getD-append, length, length-append, take}
 use lib.Seq.{getD-take, length-take-le}
-use mathlib.Core.Bool.{Bool, cond, false, not, true, _&&_, _||_}
+use mathlib.Core.Bool.{Bool, cond, false, not, true, _||_}
 use mathlib.Core.List.{List, _++_}
 use mathlib.Core.Logic.{inl, inr, _≢_, _⊎_}
 use mathlib.Core.Path.{ap, refl, subst, sym, _∙_, _≡_}
@@ -63,6 +65,8 @@ module _ (m : Model) (p q : List ℕ) where
       rw (
         le-ltb (length p) (markSize Declaration) (a .long),
         le-ltb (length q) (markSize Declaration) (a .long′),
+        a .same 0 (omega arith),
+        a .same 1 (omega arith),
         a .same 2 (omega arith),
         a .same 3 (omega arith),
         a .same 4 (omega arith),
@@ -102,6 +106,11 @@ by-test : (P : Asked → Type 0) (b : Bool) (x y : Asked) → P x → P y → P 
 by-test P true x y p q = p
 by-test P false x y p q = q
 
+-- and of what is declared
+by-sensor : (P : Asked → Type 0) (d : Declares) → ((sensor : Sensor) → P (Declare sensor)) → P (Refused NoSuchSensor) → P (sensorAsked d)
+by-sensor P Nothing one none = none
+by-sensor P (One sensor) one none = one sensor
+
 -- and one that is not cut is whole
 abbrev Whole : (size long : ℕ) → Asked → Type 0
 Whole size long a = (a ≡ Refused Cut) ⊎ ((size ≤ long) × Sized size a)
@@ -120,7 +129,8 @@ module _ (rest : List ℕ) (m : Model) (l : 2 ≤ length rest) where
   whole-by Declaration =
       whole-if (markSize Declaration) (length rest) _
       (by-test (Sized (markSize Declaration)) (m .running || not (eqb (byte rest 2) (m .declared))) _ _ (inl refl)
-      (by-test (Sized (markSize Declaration)) (ltb (byte rest 2) 16 && modelled (byte rest 3) (byte rest 4)) _ _ (inr refl) (inl refl)))
+      (by-test (Sized (markSize Declaration)) (ltb (byte rest 2) 16) _ _
+      (by-sensor (Sized (markSize Declaration)) (declaredIn rest) (λ sensor. inr refl) (inl refl)) (inl refl)))
   whole-by Measurement =
       whole-if (markSize Measurement) (length rest) _
       (by-test (Sized (markSize Measurement)) (known m (byte rest 2)) _ _
@@ -207,7 +217,7 @@ refused-still rest m why uncut e ys =
 -- ---- BY KINDS: what holds of each refusal but 9, and of each kind of record that is whole, holds of what is asked for
 module _ (P : Asked → Type 0) (rest : List ℕ) (m : Model)
     (refuse : (why : Refusal) → numberOf why ≢ 9 → P (Refused why))
-    (declares : P (Declare (byte rest 3) (byte rest 4)))
+    (declares : (sensor : Sensor) → P (Declare sensor))
     (holds : P (Hold (byte rest 2) (sampleIn rest)))
     (frames : P (Frame (byte rest 2) (byte rest 3) (byte rest 4)))
     (time : word rest 2 ≤ 4294967295 - m .tick → m .tick + word rest 2 ≤ m .last → P (Ticks (word rest 2)))
@@ -225,7 +235,8 @@ module _ (P : Asked → Type 0) (rest : List ℕ) (m : Model)
     kind-by Declaration =
         by-test P (ltb (length rest) (markSize Declaration)) _ _ (refuse Cut (omega arith))
         (by-test P (m .running || not (eqb (byte rest 2) (m .declared))) _ _ (refuse LateOrSkipped (omega arith))
-        (by-test P (ltb (byte rest 2) 16 && modelled (byte rest 3) (byte rest 4)) _ _ declares (refuse NoSuchSensor (omega arith))))
+        (by-test P (ltb (byte rest 2) 16) _ _
+        (by-sensor P (declaredIn rest) declares (refuse NoSuchSensor (omega arith))) (refuse NoSuchSensor (omega arith))))
     kind-by Measurement =
         by-test P (ltb (length rest) (markSize Measurement)) _ _ (refuse Cut (omega arith))
         (by-test P (known m (byte rest 2)) _ _
@@ -245,7 +256,7 @@ module _ (P : Asked → Type 0) (rest : List ℕ) (m : Model)
 -- ---- the ticks that a record asks for are within the time that is left, and two bytes hold them
 abbrev pub ticksOf : Asked → ℕ
 ticksOf (Refused why) = 0
-ticksOf (Declare type resolution) = 0
+ticksOf (Declare sensor) = 0
 ticksOf (Hold i sample) = 0
 ticksOf (Frame first second third) = 0
 ticksOf (Ticks n) = n
@@ -253,7 +264,7 @@ ticksOf (Ticks n) = n
 -- none but of a TK, whose two bytes count them
 ticks-counted : (P : ℕ → Type 0) → P 0 → (rest : List ℕ) (m : Model)
     → (word rest 2 ≤ 4294967295 - m .tick → m .tick + word rest 2 ≤ m .last → P (word rest 2)) → P (ticksOf (asked rest m))
-ticks-counted P none rest m time = by-kinds (λ a. P (ticksOf a)) rest m (λ why h. none) none none none time
+ticks-counted P none rest m time = by-kinds (λ a. P (ticksOf a)) rest m (λ why h. none) (λ sensor. none) none none time
 
 pub time-left : (rest : List ℕ) (m : Model) → ticksOf (asked rest m) ≤ 4294967295 - m .tick
 time-left rest m = ticks-counted (λ n. n ≤ 4294967295 - m .tick) (omega arith) rest m (λ h k. h)
@@ -271,7 +282,7 @@ count-of rest m = ticks-counted (λ n. 0 < n → n ≡ word rest 2) (λ h. absur
 
 pub as-ticks : (a : Asked) → 0 < ticksOf a → a ≡ Ticks (ticksOf a)
 as-ticks (Refused why) h = absurd (omega arith)
-as-ticks (Declare type resolution) h = absurd (omega arith)
+as-ticks (Declare sensor) h = absurd (omega arith)
 as-ticks (Hold i sample) h = absurd (omega arith)
 as-ticks (Frame first second third) h = absurd (omega arith)
 as-ticks (Ticks n) h = refl

@@ -1,7 +1,10 @@
 // The record at the front of what is left of a session: what it asks for, or by which number it is refused. All numbers but 9.
+use crate::declaring::Declares;
+use crate::declaring::declared_by;
 use device::Model;
 use record::Mark;
 use sensor::Sample;
+use sensor::Sensor;
 ghost use Rattle.judging.specs.Asked.{Sound, asked, declareAsked, frameAsked, sampleAsked, ticksAsked};
 ghost use Rattle.judging.specs.Refusals.{numberOf};
 ghost use mathlib.Core.Path.{_≡_};
@@ -24,7 +27,7 @@ pub enum Refusal {
 // What a record asks for.
 pub enum Asked {
     Refused(Refusal),
-    Declare { sensor_type: u8, resolution: u8 },
+    Declare(Sensor),
     Hold { instance: u8, sample: Sample },
     Frame(u8, u8, u8),
     Ticks(u16),
@@ -66,7 +69,7 @@ pub fn record_asked(rest: &[u8], model: Model) -> Asked
     }
 }
 
-// IN, of which the mark is there.
+// A declaration, of which the mark is there.
 fn declare_asked(rest: &[u8], model: Model) -> Asked
     ensures { λ r. ⌜ (r ≡ declareAsked (now (rest .entry)) model) × Sound (now (rest .entry)) model r ⌝ }
 {
@@ -74,18 +77,17 @@ fn declare_asked(rest: &[u8], model: Model) -> Asked
         return Asked::Refused(Refusal::Cut);
     }
     let instance = rest[2];
-    let sensor_type = rest[3];
-    let resolution = rest[4];
     if model.running | (instance != model.declared) {
         return Asked::Refused(Refusal::LateOrSkipped);
     }
-    if (instance < 16) & sensor::modelled(sensor_type, resolution) {
-        return Asked::Declare {
-            sensor_type,
-            resolution,
-        };
+    if 16 <= instance {
+        return Asked::Refused(Refusal::NoSuchSensor);
     }
-    Asked::Refused(Refusal::NoSuchSensor)
+    let declares = declared_by(record::word(rest[0], rest[1]), rest[3], rest[4]);
+    match declares {
+        Declares::Nothing => Asked::Refused(Refusal::NoSuchSensor),
+        Declares::One(sensor) => Asked::Declare(sensor),
+    }
 }
 
 // SA, of which the mark is there.

@@ -1,12 +1,12 @@
 -- An instance as it is declared: enabled, its dead time over, its report timer started, nothing measured.
 -- Assumes nothing.
-use Prim.Native.Nat.{ℕ}
 use Rattle.sensor.specs.Fresh as sensors
 use Rattle.sensor.specs.Kind.{rules}
 use Rattle.sensor.specs.declared.instance.Instance.{Instance}
+use Rattle.sensor.specs.declared.sensors.Sensor.the-variants.{Light, Occupancy}
+use Rattle.sensor.specs.declared.sensors.Sensor.{Sensor}
 use Rattle.timers.specs.Timers.{startedReport}
-use lib.Dec.{eqb}
-use mathlib.Core.Bool.{Bool, cond, false, true}
+use mathlib.Core.Bool.{false, true}
 use mathlib.Core.Path.{refl, _≡_}
 
 pub record Fresh (x : Instance) : Type 0 where
@@ -15,10 +15,7 @@ pub record Fresh (x : Instance) : Type 0 where
   pub report : x .timers .report ≡ startedReport (rules (x .kind) (x .settings))
   pub measured : x .measured ≡ false
 
-pub fresh : (type resolution : ℕ) → Fresh (sensors.declared type resolution)
+pub fresh : (sensor : Sensor) → Fresh (sensors.declared sensor)
 unfolding sensors.declared sensors.occupancyFresh sensors.lightFresh sensors.fresh
-fresh type resolution = go (eqb type 3)
-  where
-    go : (b : Bool) → Fresh (cond b sensors.occupancyFresh (sensors.lightFresh resolution))
-    go true = record { on = refl; dead = refl; report = refl; measured = refl }
-    go false = record { on = refl; dead = refl; report = refl; measured = refl }
+fresh Occupancy = record { on = refl; dead = refl; report = refl; measured = refl }
+fresh (Light resolution) = record { on = refl; dead = refl; report = refl; measured = refl }

@@ -66,8 +66,6 @@ use Rattle.sensor.proofs.light.Light.settled.Kinds as Light-settled-kin
 use Rattle.sensor.proofs.light.Light.settled.Reads as Light-settled
 use Rattle.sensor.proofs.light.Light.taken.Kinds as Light-taken-kinds
 use Rattle.sensor.proofs.light.Light.taken.Reads as Light-taken
-use Rattle.sensor.proofs.modelled.Kinds as modelled-kinds
-use Rattle.sensor.proofs.modelled.Reads as modelled
 use Rattle.sensor.proofs.occupancy.Occupancy.allowing.Kinds as Occupancy-allowing-kinds
 use Rattle.sensor.proofs.occupancy.Occupancy.allowing.Reads as Occupancy-allowing
 use Rattle.sensor.proofs.occupancy.Occupancy.allows.Kinds as Occupancy-allows-kinds
@@ -152,9 +150,6 @@ Kind-allowing-unique κs a x y s t p q = p ∙ sym q
 
 pub Kind-settled-unique : Unique 0 Kind-settled-kinds.ps Kind-settled-kinds.r Kind-settled.Post
 Kind-settled-unique κs a x y s t p q = p ∙ sym q
-
-pub modelled-unique : Unique 0 modelled-kinds.ps modelled-kinds.r modelled.Post
-modelled-unique κs a x y s t p q = p ∙ sym q
 
 pub Light-fresh-unique : Unique 0 Light-fresh-kinds.ps Light-fresh-kinds.r Light-fresh.Post
 Light-fresh-unique κs a x y s t p q = p ∙ sym q

@@ -10,12 +10,12 @@ use Rattle.sensor.specs.declared.instance.Instance.{Instance}
 use Rattle.sensor.specs.declared.kind.Kind.the-variants.{Light, Occupancy}
 use Rattle.sensor.specs.declared.kind.Kind.{Kind}
 use Rattle.sensor.specs.declared.light.Band.the-variants.{Nowhere}
+use Rattle.sensor.specs.declared.sensors.Sensor.the-variants as sensors
+use Rattle.sensor.specs.declared.sensors.Sensor.{Sensor}
 use Rattle.sensor.specs.declared.settings.Sample.{Sample}
 use Rattle.sensor.specs.declared.settings.Settings.{Settings}
 use Rattle.timers.specs.Timers.{startedReport}
 use Rattle.timers.specs.declared.Report.the-variants.{Stopped}
-use lib.Dec.{eqb}
-use mathlib.Core.Bool.{cond}
 
 -- dead time not running, report timer started, nothing latched
 unfoldable pub fresh : Kind → Settings → (held : Sample) → Instance
@@ -27,9 +27,10 @@ lightFresh resolution = fresh (Light (lightStart resolution)) (lightSettings res
 unfoldable pub occupancyFresh : Instance
 occupancyFresh = fresh (Occupancy occupancyStart) occupancySettings still
 
--- what IN declares
-unfoldable pub declared : (type resolution : ℕ) → Instance
-declared type resolution = cond (eqb type 3) occupancyFresh (lightFresh resolution)
+-- what each sensor that a declaration declares is
+unfoldable pub declared : Sensor → Instance
+declared sensors.Occupancy = occupancyFresh
+declared (sensors.Light resolution) = lightFresh resolution
 
 -- what stands where nothing was declared: every number 0, every enum at its first variant
 abbrev pub blank : Instance

@@ -9,8 +9,7 @@ use Rattle.sensor.specs.declared.settings.Sample.{Sample}
 use Rattle.sensor.specs.declared.settings.Settings.{Settings}
 use Rattle.timers.specs.declared.Rules.{Rules}
 use Rattle.timers.specs.declared.Units.{Units}
-use lib.Dec.{eqb, leb}
-use mathlib.Core.Bool.{Bool, cond, _&&_}
+use mathlib.Core.Bool.{Bool}
 
 -- ---- for a tick
 unfoldable pub units : Kind → Units
@@ -67,7 +66,3 @@ allows (Occupancy o) sample = occupancyAllows sample
 unfoldable pub allowing : Kind → (allowed : ℕ) → Kind
 allowing (Light l) allowed = Light l
 allowing (Occupancy o) allowed = Occupancy (occupancyAllowing o allowed)
-
--- ---- for declarations: type 3 with resolution 2, type 4 with resolution 1 to 24
-unfoldable pub modelled : (type resolution : ℕ) → Bool
-modelled type r = cond (eqb type 4) (leb 1 r && leb r 24) (eqb type 3 && eqb r 2)

@@ -2,6 +2,7 @@
 use crate::kind::Kind;
 use crate::light::Light;
 use crate::occupancy::Occupancy;
+use crate::sensors::Sensor;
 use crate::settings::Sample;
 use crate::settings::Settings;
 use timers::Decision;
@@ -60,14 +61,13 @@ impl Instance {
         }
     }
 
-    // An instance of that type; light for any type that is not occupancy.
-    pub fn declared(sensor_type: u8, resolution: u8) -> Instance
-        ensures { λ r. ⌜ r ≡ declared «sensor_type» resolution ⌝ }
+    // The instance that a declaration of that sensor leaves.
+    pub fn declared(sensor: Sensor) -> Instance
+        ensures { λ r. ⌜ r ≡ declared sensor ⌝ }
     {
-        if sensor_type == Occupancy::TYPE {
-            Occupancy::fresh()
-        } else {
-            Light::fresh(resolution)
+        match sensor {
+            Sensor::Occupancy => Occupancy::fresh(),
+            Sensor::Light { resolution } => Light::fresh(resolution),
         }
     }
 

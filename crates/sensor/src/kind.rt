@@ -5,7 +5,7 @@ use crate::settings::Sample;
 use crate::settings::Settings;
 use timers::Rules;
 use timers::Units;
-ghost use Rattle.sensor.specs.Kind.{allowing, allows, cause, information, input, kept, modelled, repeat, resolution, rules, sensorType, sent, taken, units};
+ghost use Rattle.sensor.specs.Kind.{allowing, allows, cause, information, input, kept, repeat, resolution, rules, sensorType, sent, taken, units};
 ghost use Rattle.sensor.specs.Quiet.{settled};
 ghost use mathlib.Core.Path.{_≡_};
 
@@ -182,16 +182,5 @@ impl Kind {
             Kind::Light(x) => x.settled(held),
             Kind::Occupancy(x) => x.settled(settings, held),
         }
-    }
-}
-
-// Type 3 with resolution 2, or type 4 with 1 to 24.
-pub fn modelled(sensor_type: u8, resolution: u8) -> bool
-    ensures { λ r. ⌜ r ≡ modelled «sensor_type» resolution ⌝ }
-{
-    if sensor_type == Light::TYPE {
-        (1 <= resolution) & (resolution <= 24)
-    } else {
-        (sensor_type == Occupancy::TYPE) & (resolution == Occupancy::RESOLUTION)
     }
 }

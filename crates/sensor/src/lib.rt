@@ -4,6 +4,7 @@ mod instance;
 mod kind;
 mod light;
 mod occupancy;
+mod sensors;
 mod settings;
 
 pub use instance::Instance;
@@ -11,9 +12,9 @@ pub use instance::Latch;
 pub use instance::Sent;
 pub use instance::Ticked;
 pub use kind::Kind;
-pub use kind::modelled;
 pub use light::Band;
 pub use light::Light;
 pub use occupancy::Occupancy;
+pub use sensors::Sensor;
 pub use settings::Sample;
 pub use settings::Settings;

@@ -47,7 +47,7 @@ ticking-within (suc n) done room m log h =
 step-within : (a : Asked) (room : ℕ) (m : Model) (log : List Logged) → length (bytesOf log) ≤ room → Within room (step a room m log)
 unfolding step
 step-within (Refused why) room m log h = h
-step-within (Declare type resolution) room m log h = h
+step-within (Declare sensor) room m log h = h
 step-within (Hold i sample) room m log h = h
 step-within (Frame x y z) room m log h = by (fits room log (frameLog m x y z)) refl
   where

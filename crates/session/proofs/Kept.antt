@@ -76,7 +76,7 @@ keeps-if false x y p q = q
 keeps : (a : Asked) (room : ℕ) (m : Model) (log : List Logged) → Kept a room m log (step a room m log)
 unfolding step sizeOf ticking
 keeps (Refused why) room m log = kept
-keeps (Declare type resolution) room m log = took (omega arith)
+keeps (Declare sensor) room m log = took (omega arith)
 keeps (Hold i sample) room m log = took (omega arith)
 keeps (Frame first second third) room m log = keeps-if (fits room log (frameLog m first second third)) _ _ (took (omega arith)) kept
 keeps (Ticks n) room m log = go (ticking n 0 room m log) refl
@@ -123,7 +123,7 @@ pub refused-by : (a : Asked) (room : ℕ) (m : Model) (log : List Logged) (why :
     → step a room m log ≡ refused why t m′ log′ → ((a ≡ Refused why) × (m′ ≡ m)) ⊎ (why ≡ Full)
 unfolding step
 refused-by (Refused w) room m log why t m′ log′ e = let same : w ≡ why = cc in let here : m ≡ m′ = cc in inl (ap Refused same, sym here)
-refused-by (Declare type resolution) room m log why t m′ log′ e = absurd (taken≢refused e)
+refused-by (Declare sensor) room m log why t m′ log′ e = absurd (taken≢refused e)
 refused-by (Hold i sample) room m log why t m′ log′ e = absurd (taken≢refused e)
 refused-by (Frame first second third) room m log why t m′ log′ e = go (fits room log (frameLog m first second third)) refl
   where

@@ -54,7 +54,7 @@ module _ (room : ℕ) (pre : List Logged) where
   pub step-behind : (a : Asked) (m : Model) (log : List Logged) → step a room m (pre ++ log) ≡ after-log pre (step a left m log)
   unfolding step
   step-behind (Refused why) m log = refl
-  step-behind (Declare type resolution) m log = refl
+  step-behind (Declare sensor) m log = refl
   step-behind (Hold i sample) m log = refl
   step-behind (Frame first second third) m log = rw (fits-behind log (frameLog m first second third), step) (go (fits left log (frameLog m first second third)))
     where

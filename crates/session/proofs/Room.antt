@@ -92,7 +92,7 @@ pub roomier : (a : Asked) (room big : ℕ) (m : Model) (log : List Logged) (m′
     → step a big m log ≡ taken m′ log′
 unfolding step ticking
 roomier (Refused why) room big m log m′ log′ e h = absurd (taken≢refused (sym e))
-roomier (Declare type resolution) room big m log m′ log′ e h = e
+roomier (Declare sensor) room big m log m′ log′ e h = e
 roomier (Hold i sample) room big m log m′ log′ e h = e
 roomier (Frame first second third) room big m log m′ log′ e h = go (fits room log (frameLog m first second third)) refl
   where

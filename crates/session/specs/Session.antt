@@ -41,7 +41,7 @@ ticking (suc n) done room m log =
 -- what is asked for is done
 unfoldable pub step : Asked → (room : ℕ) → Model → List Logged → Step
 step (Refused why) room m log = refused why 0 m log
-step (Declare type resolution) room m log = taken (declaredModel m type resolution) log
+step (Declare sensor) room m log = taken (declaredModel m sensor) log
 step (Hold i sample) room m log = taken (heldModel m i sample) log
 step (Frame first second third) room m log =
     elim (fits room log (frameLog m first second third)) [

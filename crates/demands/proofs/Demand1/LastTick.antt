@@ -43,7 +43,7 @@ ticks-rise (suc n) m = omega (arith, ticks-rise n (tickModel m), tick-tick m)
 asked-rise : (a : Asked) (m : Model) → modelAfter m (asksFor a) .tick ≡ m .tick + ticksOf a
 unfolding modelAfter
 asked-rise (Refused why) m = sym (add-zero (m .tick))
-asked-rise (Declare type resolution) m = happen-tick m (declare type resolution)
+asked-rise (Declare sensor) m = happen-tick m (declare sensor)
 asked-rise (Hold i sample) m = happen-tick m (hold i sample)
 asked-rise (Frame first second third) m = happen-tick m (frame first second third)
 asked-rise (Ticks n) m = ticks-rise n m

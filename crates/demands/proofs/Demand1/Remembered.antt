@@ -12,6 +12,7 @@ use Rattle.device.specs.Device.{declaredModel, heldModel, instanceAt}
 use Rattle.device.specs.declared.model.Model.{Model}
 use Rattle.sensor.proofs.Fresh.{fresh}
 use Rattle.sensor.proofs.Measured.{sample-measured, tick-measured}
+use Rattle.sensor.specs.declared.sensors.Sensor.{Sensor}
 use Rattle.sensor.specs.declared.settings.Sample.{Sample}
 use Rattle.session.specs.Session.{session}
 use borrow.Author.Tests.{eq-eqb, ne-eqb}
@@ -24,9 +25,9 @@ use native.Mathlib.Decide.{ℕ-discrete}
 use native.Mathlib.Omega.{arith}
 
 -- as declared it has had no valid sample
-pub declared-measured : (m : Model) (type resolution : ℕ) → length (m .instances) ≡ 16 → m .declared < 16
-    → instanceAt (declaredModel m type resolution) (m .declared) .measured ≡ false
-declared-measured m type resolution all h = ap (λ x. x .measured) (declared-here m type resolution all h) ∙ fresh type resolution .measured
+pub declared-measured : (m : Model) (sensor : Sensor) → length (m .instances) ≡ 16 → m .declared < 16
+    → instanceAt (declaredModel m sensor) (m .declared) .measured ≡ false
+declared-measured m sensor all h = ap (λ x. x .measured) (declared-here m sensor all h) ∙ fresh sensor .measured
 
 -- what is as it was
 kept : {a b : Bool} → b ≡ a → b ≡ (a || false)
@@ -42,7 +43,7 @@ module _ {i : ℕ} where
       by (no other) = rw (ne-eqb j i (λ e. other (sym e))) (kept (ap (λ x. x .measured) (held-other m j sample i other)))
 
   happen-measured : (m : Model) → Present i m → (h : Happening) → instanceAt (happen m h) i .measured ≡ (instanceAt m i .measured || measures i h)
-  happen-measured m p (declare type resolution) = kept (ap (λ x. x .measured) (declared-other m type resolution i (λ e. omega (arith, p .declared))))
+  happen-measured m p (declare sensor) = kept (ap (λ x. x .measured) (declared-other m sensor i (λ e. omega (arith, p .declared))))
   happen-measured m p (hold j sample) = held-measured m p j sample
   happen-measured m p (frame first second third) = kept (frame-measured m first second third i)
   happen-measured m p tick = kept (ap (λ x. x .measured) (ticked-own p) ∙ tick-measured (instanceAt m i))

@@ -2,22 +2,25 @@
 -- Assumes nothing.
 use Prim.Native.Nat.{ℕ, _+_, _-_, _<_, _^_, _≤_}
 use Rattle.demands.proofs.Demand1.Tells.{Tells, fails, holds, tells-and, tells-as, tells-bool, tells-cond, tells-eqb, tells-leb, tells-ltb, tells-not, tells-or}
+use Rattle.demands.proofs.Shared.Declarations.{declared-none, none-declared}
 use Rattle.demands.proofs.Shared.Marks.{MarkIs, fr-asked, in-asked, mark-is, sa-asked, tk-asked, unknown-mark}
 use Rattle.demands.specs.Numbers.{Allowed, Declared, FR, Given, GoesBack, IN, Late, NoSensor, SA, TK}
 use Rattle.device.specs.Device.{allowed, instanceAt, known}
 use Rattle.device.specs.declared.model.Model.{Model}
 use Rattle.judging.proofs.Asking.{marked}
-use Rattle.judging.specs.Asked.{asked, askedBy, declareAsked, frameAsked, sampleAsked, sampleIn, ticksAsked}
+use Rattle.judging.specs.Asked.{asked, askedBy, declareAsked, declaredIn, frameAsked, sampleAsked, sampleIn, sensorAsked, ticksAsked}
 use Rattle.judging.specs.declared.asked.Asked.the-variants.{Declare, Frame, Hold, Refused, Ticks}
 use Rattle.judging.specs.declared.asked.Asked.{Asked}
 use Rattle.judging.specs.declared.asked.Refusal.the-variants.{BadSample, BeyondTable, Cut, Full, LateOrSkipped, NoSuchSensor, NoTicks, NotReadyAgain, TimeOver, Undeclared, UnknownMark}
 use Rattle.judging.specs.declared.asked.Refusal.{Refusal}
+use Rattle.judging.specs.declared.declaring.Declares.the-variants.{Nothing, One}
+use Rattle.judging.specs.declared.declaring.Declares.{Declares}
 use Rattle.record.specs.Log.{AllBytes}
 use Rattle.record.specs.Marks.{markOf, markSize}
 use Rattle.record.specs.Numbers.{byte, word}
 use Rattle.record.specs.declared.marks.Mark.the-variants.{Bus, Declaration, Measurement, Time, Unknown}
 use Rattle.record.specs.declared.marks.Mark.{Mark}
-use Rattle.sensor.specs.Kind.{allows, modelled}
+use Rattle.sensor.specs.Kind.{allows}
 use Rattle.sensor.specs.Light.{lightAllows}
 use Rattle.sensor.specs.Occupancy.{occupancyAllows}
 use Rattle.sensor.specs.Tick.{goesBack}
@@ -28,47 +31,16 @@ use Rattle.sensor.specs.declared.settings.Sample.{Sample}
 use borrow.Author.Tests.{eq-eqb, eqb-false, eqb-true, le-ltb, lt-ltb, ltb-false, ltb-true, ne-eqb}
 use lib.Dec.{eqb, ltb}
 use lib.ListN.{length}
-use mathlib.Core.Bool.{Bool, cond, false, not, true, _&&_, _||_}
+use mathlib.Core.Bool.{Bool, cond, false, not, true, _||_}
 use mathlib.Core.List.{List}
 use mathlib.Core.Logic.{inl, inr, _≢_, _⊎_}
-use mathlib.Core.Path.{refl, subst, _∙_, _≡_}
-use native.Mathlib.Decide.{decLe, decLt, ℕ-discrete}
+use mathlib.Core.Path.{ap, refl, subst, _∙_, _≡_}
+use native.Mathlib.Decide.{decLt, ℕ-discrete}
 use native.Mathlib.Omega.{arith}
 
 -- ---- the tests of the rows
 late-tells : (rest : List ℕ) (m : Model) → Tells (m .running || not (eqb (byte rest 2) (m .declared))) (Late rest m)
 late-tells rest m = tells-or (tells-bool (m .running)) (tells-not (tells-eqb (byte rest 2) (m .declared)))
-
-abbrev Sensor : (number type resolution : ℕ) → Type 0
-Sensor i t r = (i < 16) × (((t ≡ 4) × ((1 ≤ r) × (r ≤ 24))) ⊎ ((t ≢ 4) × ((t ≡ 3) × (r ≡ 2))))
-
-sensor-tells : (i t r : ℕ) → Tells (ltb i 16 && modelled t r) (Sensor i t r)
-unfolding modelled
-sensor-tells i t r =
-    tells-and (tells-ltb i 16) (tells-cond (tells-eqb t 4) (tells-and (tells-leb 1 r) (tells-leb r 24)) (tells-and (tells-eqb t 3) (tells-eqb r 2)))
-
-no-sensor : (i t r : ℕ) → (Sensor i t r → ⊥) → NoSensor i t r
-no-sensor i t r n = go (decLt i 16) (ℕ-discrete t 3) (ℕ-discrete t 4) (ℕ-discrete r 2) (decLe 1 r) (decLe r 24)
-  where
-    go : Dec (i < 16) → Dec (t ≡ 3) → Dec (t ≡ 4) → Dec (r ≡ 2) → Dec (1 ≤ r) → Dec (r ≤ 24) → NoSensor i t r
-    go (no a) b c d e f = inl (omega arith)
-    go (yes a) (no b) (no c) d e f = inr (inl (b, c))
-    go (yes a) (yes b) c (no d) e f = inr (inr (inl (b, d)))
-    go (yes a) (yes b) c (yes d) e f = absurd (n (a, inr (λ k. omega arith, (b, d))))
-    go (yes a) (no b) (yes c) d (no e) f = inr (inr (inr (c, inl (omega arith))))
-    go (yes a) (no b) (yes c) d (yes e) (no f) = inr (inr (inr (c, inr (omega arith))))
-    go (yes a) (no b) (yes c) d (yes e) (yes f) = absurd (n (a, inl (c, (e, f))))
-
-never-sensor : (i t r : ℕ) → NoSensor i t r → Sensor i t r → ⊥
-never-sensor i t r (inl a) (b, s) = omega arith
-never-sensor i t r (inr (inl (a, b))) (c, inl (d, e)) = b d
-never-sensor i t r (inr (inl (a, b))) (c, inr (d, (e, f))) = a e
-never-sensor i t r (inr (inr (inl (a, b)))) (c, inl (d, e)) = omega arith
-never-sensor i t r (inr (inr (inl (a, b)))) (c, inr (d, (e, f))) = b f
-never-sensor i t r (inr (inr (inr (a, inl b)))) (c, inl (d, e)) = omega arith
-never-sensor i t r (inr (inr (inr (a, inr b)))) (c, inl (d, e)) = omega arith
-never-sensor i t r (inr (inr (inr (a, inl b)))) (c, inr (d, (e, f))) = d a
-never-sensor i t r (inr (inr (inr (a, inr b)))) (c, inr (d, (e, f))) = d a
 
 known-tells : (m : Model) (i : ℕ) → Tells (known m i) (Declared m i)
 unfolding known
@@ -113,6 +85,14 @@ back-tells x s = tells-and (tells-bool (x .measured)) (tells-eqb (s .status) 1)
 
 module _ (rest : List ℕ) (m : Model) where
   -- ---- a row that holds is given
+  no-sensor : IN rest → NoSensor (byte rest 2) (byte rest 3) (byte rest 4)
+      → cond (ltb (byte rest 2) 16) (sensorAsked (declaredIn rest)) (Refused NoSuchSensor) ≡ Refused NoSuchSensor
+  no-sensor k s = go (decLt (byte rest 2) 16)
+    where
+      go : Dec (byte rest 2 < 16) → cond (ltb (byte rest 2) 16) (sensorAsked (declaredIn rest)) (Refused NoSuchSensor) ≡ Refused NoSuchSensor
+      go (yes h) = rw (lt-ltb (byte rest 2) 16 h) (ap sensorAsked (none-declared rest k h s))
+      go (no h) = rw (le-ltb (byte rest 2) 16 (omega arith))
+
   pub given : AllBytes rest → (why : Refusal) → Given why rest m → asked rest m ≡ Refused why
   unfolding asked askedBy declareAsked sampleAsked frameAsked ticksAsked
   given bytes UnknownMark (l, a, b, c, d) = marked rest m l ∙ rw (unknown-mark rest l (a, b, c, d))
@@ -127,8 +107,8 @@ module _ (rest : List ℕ) (m : Model) where
       ∙ rw (
         le-ltb (length rest) (markSize Declaration) h,
         fails (late-tells rest m) n,
-        fails (sensor-tells (byte rest 2) (byte rest 3) (byte rest 4)) (never-sensor (byte rest 2) (byte rest 3) (byte rest 4) s),
       )
+      (no-sensor k s)
   given bytes Undeclared (k, h, n) = sa-asked rest m k ∙ rw (le-ltb (length rest) (markSize Measurement) h, fails (known-tells m (byte rest 2)) n)
   given bytes BadSample (k, h, d, n) =
       sa-asked rest m k
@@ -157,7 +137,7 @@ module _ (rest : List ℕ) (m : Model) where
   -- ---- what is given holds
   abbrev Says : Asked → Type 0
   Says (Refused why) = Given why rest m
-  Says (Declare type resolution) = Unit {0}
+  Says (Declare sensor) = Unit {0}
   Says (Hold i sample) = Unit {0}
   Says (Frame first second third) = Unit {0}
   Says (Ticks n) = Unit {0}
@@ -166,17 +146,17 @@ module _ (rest : List ℕ) (m : Model) where
   unfolding declareAsked
   in-says k =
       go (ltb (length rest) (markSize Declaration)) refl (m .running || not (eqb (byte rest 2) (m .declared))) refl
-      (ltb (byte rest 2) 16 && modelled (byte rest 3) (byte rest 4)) refl
+      (ltb (byte rest 2) 16) refl (declaredIn rest) refl
     where
       go : (a : Bool) → ltb (length rest) (markSize Declaration) ≡ a → (b : Bool) → (m .running || not (eqb (byte rest 2) (m .declared))) ≡ b
-          → (c : Bool) → (ltb (byte rest 2) 16 && modelled (byte rest 3) (byte rest 4)) ≡ c
-          → Says (cond a (Refused Cut) (cond b (Refused LateOrSkipped) (cond c (Declare (byte rest 3) (byte rest 4)) (Refused NoSuchSensor))))
-      go true e b f c g = inr (inl (k, ltb-true (length rest) (markSize Declaration) e))
-      go false e true f c g = (k, ltb-false (length rest) (markSize Declaration) e, late-tells rest m .yes f)
-      go false e false f true g = tt
-      go false e false f false g =
-          let none = no-sensor (byte rest 2) (byte rest 3) (byte rest 4) (sensor-tells (byte rest 2) (byte rest 3) (byte rest 4) .no g) in
-          (k, ltb-false (length rest) (markSize Declaration) e, late-tells rest m .no f, none)
+          → (c : Bool) → ltb (byte rest 2) 16 ≡ c → (d : Declares) → declaredIn rest ≡ d
+          → Says (cond a (Refused Cut) (cond b (Refused LateOrSkipped) (cond c (sensorAsked d) (Refused NoSuchSensor))))
+      go true e b f c g d h = inr (inl (k, ltb-true (length rest) (markSize Declaration) e))
+      go false e true f c g d h = (k, ltb-false (length rest) (markSize Declaration) e, late-tells rest m .yes f)
+      go false e false f true g Nothing h = (k, ltb-false (length rest) (markSize Declaration) e, late-tells rest m .no f, declared-none rest k h)
+      go false e false f true g (One sensor) h = tt
+      go false e false f false g d h =
+          (k, ltb-false (length rest) (markSize Declaration) e, late-tells rest m .no f, inl (ltb-false (byte rest 2) 16 g))
 
   sa-says : SA rest → Says (sampleAsked rest m)
   unfolding sampleAsked

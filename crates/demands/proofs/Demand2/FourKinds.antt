@@ -2,12 +2,13 @@
 -- Assumes nothing.
 use Prim.Native.Nat.{ℕ, _+_, _-_, _<_, _≤_}
 use Rattle.demands.proofs.Demand1.{number-exactly}
+use Rattle.demands.proofs.Shared.Declarations.{Either, either, named, named-by}
 use Rattle.demands.proofs.Shared.Marks.{MarkIs, fr-asked, in-asked, mark-is, sa-asked, tk-asked}
 use Rattle.demands.specs.Happenings.{Happening, asksFor}
-use Rattle.demands.specs.Numbers.{Front, NoneGiven, declares, frames, holds, passes}
+use Rattle.demands.specs.Numbers.{Front, IN, Names, NoneGiven, declares, frames, holds, passes}
 use Rattle.device.specs.Device.{allowed, instanceAt, known}
 use Rattle.device.specs.declared.model.Model.{Model}
-use Rattle.judging.specs.Asked.{asked, declareAsked, frameAsked, sampleAsked, sampleIn, sizeOf, ticksAsked}
+use Rattle.judging.specs.Asked.{asked, declareAsked, declaredIn, frameAsked, sampleAsked, sampleIn, sensorAsked, sizeOf, ticksAsked}
 use Rattle.judging.specs.declared.asked.Asked.the-variants.{Declare, Frame, Hold, Refused, Ticks}
 use Rattle.judging.specs.declared.asked.Asked.{Asked}
 use Rattle.judging.specs.declared.asked.Refusal.the-variants.{BadSample, BeyondTable, Cut, LateOrSkipped, NoSuchSensor, NoTicks, NotReadyAgain, TimeOver, Undeclared, UnknownMark}
@@ -17,14 +18,14 @@ use Rattle.record.specs.Marks.{markOf, markSize}
 use Rattle.record.specs.Numbers.{byte, word}
 use Rattle.record.specs.declared.marks.Mark.the-variants.{Bus, Declaration, Measurement, Time, Unknown}
 use Rattle.record.specs.declared.marks.Mark.{Mark}
-use Rattle.sensor.specs.Kind.{modelled}
 use Rattle.sensor.specs.Tick.{goesBack}
+use Rattle.sensor.specs.declared.sensors.Sensor.{Sensor}
 use lib.Dec.{eqb, ltb}
 use lib.ListN.{length}
-use mathlib.Core.Bool.{Bool, cond, false, not, true, _&&_, _||_}
+use mathlib.Core.Bool.{Bool, cond, false, not, true, _||_}
 use mathlib.Core.List.{List}
-use mathlib.Core.Logic.{inl}
-use mathlib.Core.Path.{ap, _≡_}
+use mathlib.Core.Logic.{inl, inr}
+use mathlib.Core.Path.{ap, _∙_, _≡_}
 use native.Mathlib.Decide.{decLt}
 use native.Mathlib.Omega.{arith}
 
@@ -35,13 +36,23 @@ pub record Asks (zs : List ℕ) (m : Model) (size : ℕ) (hs : List Happening) :
   pub tells : asksFor (asked zs m) ≡ hs
 
 module _ (zs : List ℕ) (m : Model) (bytes : AllBytes zs) (none : NoneGiven zs m) where
+  -- a declaration names a sensor
+  sensor-there : IN zs → (sensor : Sensor) × Names zs sensor
+  sensor-there k = go (either zs k) (decLt (length zs) (markSize Declaration))
+    where
+      go : Either zs → Dec (length zs < markSize Declaration) → (sensor : Sensor) × Names zs sensor
+      go (inl there) cut = there
+      go (inr gone) (yes h) = absurd (none Cut (inr (inl (k, h))))
+      go (inr gone) (no h) = let whole : markSize Declaration ≤ length zs = omega arith in
+          absurd (none NoSuchSensor (k, whole, λ late. none LateOrSkipped (k, whole, late), gone))
+
   -- its mark is one of the four
   pub front-known : (size : ℕ) × (hs : List Happening) × Front zs size hs
   front-known = go (decLt (length zs) 2)
     where
       by : 2 ≤ length zs → (k : Mark) → MarkIs k zs → (size : ℕ) × (hs : List Happening) × Front zs size hs
       by l Unknown (a, b, c, d) = absurd (none UnknownMark (l, a, b, c, d))
-      by l Declaration k = (_, _, declares k)
+      by l Declaration k = (_, _, declares (sensor-there k .0) (sensor-there k .1))
       by l Measurement k = (_, _, holds k)
       by l Bus k = (_, _, frames k)
       by l Time k = (_, _, passes k)
@@ -55,8 +66,8 @@ module _ (zs : List ℕ) (m : Model) (bytes : AllBytes zs) (none : NoneGiven zs 
   never why e = none why (number-exactly zs m bytes why .0 e)
 
   declare-asked : (a b c : Bool)
-      → asked zs m ≡ cond a (Refused Cut) (cond b (Refused LateOrSkipped) (cond c (Declare (byte zs 3) (byte zs 4)) (Refused NoSuchSensor)))
-      → asked zs m ≡ Declare (byte zs 3) (byte zs 4)
+      → asked zs m ≡ cond a (Refused Cut) (cond b (Refused LateOrSkipped) (cond c (sensorAsked (declaredIn zs)) (Refused NoSuchSensor)))
+      → asked zs m ≡ sensorAsked (declaredIn zs)
   declare-asked true b c e = absurd (never Cut e)
   declare-asked false true c e = absurd (never LateOrSkipped e)
   declare-asked false false true e = e
@@ -91,10 +102,11 @@ module _ (zs : List ℕ) (m : Model) (bytes : AllBytes zs) (none : NoneGiven zs 
 
   pub asks : {size : ℕ} {hs : List Happening} → Front zs size hs → Asks zs m size hs
   unfolding declareAsked sampleAsked frameAsked ticksAsked sizeOf
-  asks (declares k) =
-      asks-for (Declare (byte zs 3) (byte zs 4)) (omega arith)
+  asks (declares sensor names) =
+      asks-for (Declare sensor) (omega arith)
       (declare-asked (ltb (length zs) (markSize Declaration)) (m .running || not (eqb (byte zs 2) (m .declared)))
-      (ltb (byte zs 2) 16 && modelled (byte zs 3) (byte zs 4)) (in-asked zs m k))
+      (ltb (byte zs 2) 16) (in-asked zs m (named-by zs sensor names))
+      ∙ ap sensorAsked (named zs sensor names))
   asks (holds k) =
       asks-for (Hold (byte zs 2) (sampleIn zs)) (omega arith)
       (hold-asked (ltb (length zs) (markSize Measurement)) (known m (byte zs 2)) (allowed m (byte zs 2) (sampleIn zs))

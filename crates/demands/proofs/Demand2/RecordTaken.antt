@@ -39,7 +39,7 @@ step-fits : (a : Asked) (room : ℕ) (m : Model) (log : List Logged) → 0 < siz
     → step a room m log ≡ taken (modelAfter m (asksFor a)) (log ++ logAfter m (asksFor a))
 unfolding step sizeOf modelAfter logAfter
 step-fits (Refused why) room m log s h = absurd (omega arith)
-step-fits (Declare type resolution) room m log s h = rw (append-nil log)
+step-fits (Declare sensor) room m log s h = rw (append-nil log)
 step-fits (Hold i sample) room m log s h = rw (append-nil log)
 step-fits (Frame first second third) room m log s h = let (fit, more) = both-fit room log (frameLog m first second third) [] h in rw (fit, step, append-nil)
 step-fits (Ticks n) room m log s h = ticks-fit n 0 room m log h

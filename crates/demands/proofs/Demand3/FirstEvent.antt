@@ -14,6 +14,7 @@ use Rattle.sensor.proofs.Fresh.{Fresh, fresh}
 use Rattle.sensor.proofs.Reporting.{report-positive}
 use Rattle.sensor.specs.Fresh as sensors
 use Rattle.sensor.specs.Kind.{repeat, rules}
+use Rattle.sensor.specs.declared.sensors.Sensor.{Sensor}
 use Rattle.timers.proofs.FirstEvent.{Soon, first-sent}
 use Rattle.timers.specs.Pace.{sendings}
 use Rattle.timers.specs.Timers.{startedReport}
@@ -41,7 +42,7 @@ first-run i m k p on lets e d hs u h =
     timers = λ j. record { dead = instanceAt m i .timers .dead; report = e j }
 
 -- ---- of an instance just declared
-module _ {m₀ : Model} {calls : List Call} {i type resolution : ℕ} (s : Start m₀ calls i type resolution) where
+module _ {m₀ : Model} {calls : List Call} {i : ℕ} {sensor : Sensor} (s : Start m₀ calls i sensor) where
   room : deviceBefore (s .at) .declared < 16
   room = omega (arith, s .next, s .there)
 
@@ -51,15 +52,15 @@ module _ {m₀ : Model} {calls : List Call} {i type resolution : ℕ} (s : Start
   present : Present i (deviceAfter (s .at))
   present =
       record {
-        declared = omega (arith, s .next, declared-next (deviceBefore (s .at)) type resolution room);
-        listed = omega (arith, s .there, sixteen, declared-length (deviceBefore (s .at)) type resolution);
+        declared = omega (arith, s .next, declared-next (deviceBefore (s .at)) sensor room);
+        listed = omega (arith, s .there, sixteen, declared-length (deviceBefore (s .at)) sensor);
       }
 
-  here : instanceAt (deviceAfter (s .at)) i ≡ sensors.declared type resolution
-  here = ap (instanceAt (deviceAfter (s .at))) (s .next) ∙ declared-here (deviceBefore (s .at)) type resolution sixteen room
+  here : instanceAt (deviceAfter (s .at)) i ≡ sensors.declared sensor
+  here = ap (instanceAt (deviceAfter (s .at))) (s .next) ∙ declared-here (deviceBefore (s .at)) sensor sixteen room
 
   new : Fresh (instanceAt (deviceAfter (s .at)) i)
-  new = rw here (fresh type resolution)
+  new = rw here (fresh sensor)
 
   timed : instanceAt (deviceAfter (s .at)) i .timers .report ≡ Left (R (instanceAt (deviceAfter (s .at)) i))
   unfolding startedReport rules

@@ -12,6 +12,7 @@ use Rattle.device.specs.declared.model.Model.{Model}
 use Rattle.sensor.proofs.Laws.{held-kept}
 use Rattle.sensor.specs.Tick.{valid}
 use Rattle.sensor.specs.declared.instance.Instance.{Instance}
+use Rattle.sensor.specs.declared.sensors.Sensor.the-variants.{Light}
 use Rattle.ticks.specs.Tick.{tickModel}
 use lib.Dec.{eqb}
 use lib.ListN.{length, replicate}
@@ -35,7 +36,7 @@ measured v = hold 0 (record { status = 0; value = v })
 -- its first event, with what happened before it, in the 40 ticks after it, and later
 first-event : Cut fresh calls tick
 unfolding computing bytesWritten carried carriedIn carriedOut logAfter modelAfter ticksIn eventsOf
-first-event = record { before = declare 4 8 ∷ measured 100 ∷ []; during = measured 94 ∷ replicate 40 tick; later = frame 0x01 0x00 0x8C ∷ []; cut = refl }
+first-event = record { before = declare (Light 8) ∷ measured 100 ∷ []; during = measured 94 ∷ replicate 40 tick; later = frame 0x01 0x00 0x8C ∷ []; cut = refl }
 
 window : Window fresh calls 0
 unfolding first-event

@@ -15,6 +15,7 @@ use Rattle.sensor.proofs.Laws.{decision-made, holding-keeps, rules-kept, sent-d
 use Rattle.sensor.specs.Kind.{cause, rules}
 use Rattle.sensor.specs.Tick.{decisionAt, holding, takenKind, valid}
 use Rattle.sensor.specs.declared.instance.Instance.{Instance}
+use Rattle.sensor.specs.declared.sensors.Sensor.{Sensor}
 use Rattle.sensor.specs.declared.settings.Sample.{Sample}
 use Rattle.ticks.specs.Tick.{tickLog, tickModel}
 use Rattle.timers.specs.Decision.{after, decided, sends}
@@ -53,13 +54,13 @@ record Quiet (i : ℕ) (m : Model) (h : Happening) : Type 0 where
 via : {x y z : Instance} → z ≡ y → Same x y → Same x z
 via e s = record { rules = ap rulesOf e ∙ s .rules; timers = ap (λ x. x .timers) e ∙ s .timers }
 
-quiet-declare : (i : ℕ) (m : Model) (type resolution : ℕ) → Present i m → Quiet i m (declare type resolution)
+quiet-declare : (i : ℕ) (m : Model) (sensor : Sensor) → Present i m → Quiet i m (declare sensor)
 unfolding eventsOf
-quiet-declare i m type resolution p =
+quiet-declare i m sensor p =
     record {
-      kept = same (declared-other m type resolution i (λ e. omega (arith, p .declared)));
+      kept = same (declared-other m sensor i (λ e. omega (arith, p .declared)));
       silent = refl;
-      time = declared-tick m type resolution;
+      time = declared-tick m sensor;
     }
 
 quiet-hold : (i : ℕ) (m : Model) (j : ℕ) (sample : Sample) → Present i m → Quiet i m (hold j sample)
@@ -130,9 +131,9 @@ pub seen : (i : ℕ) (m : Model) → Present i m → (hs : List Happening) → U
     → Seen i (ticksIn hs) (rulesOf (instanceAt m i)) (instanceAt m i .timers) (m .tick) (logAfter m hs)
 unfolding logAfter ticksIn eventsOf sendings
 seen i m p [] u = record { causes = []; each-tick = refl; events = refl }
-seen i m p (declare type resolution ∷ hs) u =
-    let h = declare type resolution in
-    after-quiet i (ticksIn hs) m h (logAfter (happen m h) hs) (quiet-declare i m type resolution p) (seen i (happen m h) (happen-present m h p) hs (u .1))
+seen i m p (declare sensor ∷ hs) u =
+    let h = declare sensor in
+    after-quiet i (ticksIn hs) m h (logAfter (happen m h) hs) (quiet-declare i m sensor p) (seen i (happen m h) (happen-present m h p) hs (u .1))
 seen i m p (hold j sample ∷ hs) u =
     let h = hold j sample in
     after-quiet i (ticksIn hs) m h (logAfter (happen m h) hs) (quiet-hold i m j sample p) (seen i (happen m h) (happen-present m h p) hs (u .1))

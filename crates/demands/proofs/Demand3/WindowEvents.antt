@@ -77,7 +77,7 @@ sweep-within now i j (x ∷ xs) = rw events-append (within-append (sent-within n
 -- ---- the tick number
 ticks-cons : (h : Happening) (hs : List Happening) → ticksIn (h ∷ hs) ≡ rises h + ticksIn hs
 unfolding ticksIn
-ticks-cons (declare type resolution) hs = omega arith
+ticks-cons (declare sensor) hs = omega arith
 ticks-cons (hold i sample) hs = omega arith
 ticks-cons (frame first second third) hs = omega arith
 ticks-cons tick hs = omega arith
@@ -90,7 +90,7 @@ run-ticks m (h ∷ hs) = omega (arith, run-ticks (happen m h) hs, happen-tick m 
 
 logs-within : (i : ℕ) (m : Model) (h : Happening) → Within (m .tick) (m .tick + rises h) (eventsOf i (logs m h))
 unfolding eventsOf tickLog
-logs-within i m (declare type resolution) = none
+logs-within i m (declare sensor) = none
 logs-within i m (hold j sample) = none
 logs-within i m (frame a b c) = rw (events-frame i m a b c) none
 logs-within i m tick = sweep-within (m .tick) i 0 (take (m .declared) (m .instances))

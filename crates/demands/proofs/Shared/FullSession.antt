@@ -5,12 +5,13 @@ use Rattle.command.specs.Answering as answering
 use Rattle.device.specs.Device.{allowed, declaredModel, fresh, heldModel, instanceAt, known}
 use Rattle.device.specs.Frame.{answerLog, counts, frameLog, frameModel, loads, numberedLog, numberedModel}
 use Rattle.judging.specs.Asked as records
+use Rattle.judging.specs.Declaring.{declaredBy, inDeclares, lightHas}
 use Rattle.judging.specs.Refusals.{numberOf}
 use Rattle.opcode.specs.Meaning.{lightMeaning, meant, meantIn}
 use Rattle.record.specs.Log.{bytesOf, encoded}
 use Rattle.record.specs.Marks.{markOf}
 use Rattle.sensor.specs.Fresh as sensors
-use Rattle.sensor.specs.Kind.{allows, cause, information, input, modelled, repeat, resolution, rules, sent, taken, units}
+use Rattle.sensor.specs.Kind.{allows, cause, information, input, repeat, resolution, rules, sent, taken, units}
 use Rattle.sensor.specs.Light.{lightAllows, lightCause, lightInformation, lightInput, lightRepeat, lightSent, lightTaken, minimum, moved, outside, width}
 use Rattle.sensor.specs.Tick.{closed, goesBack, holding, kindAfter, sentAfter, ticked}
 use Rattle.session.specs.Session.{fits, forC, reading, session, step, ticking}
@@ -46,11 +47,12 @@ unfoldable pub computing : Unit {0}
 unfolding
     session forC reading step ticking fits numberOf
     records.asked records.askedBy records.declareAsked records.sampleAsked records.frameAsked records.ticksAsked records.sizeOf
+    declaredBy inDeclares lightHas
     allowed declaredModel fresh heldModel instanceAt known answerLog counts frameLog frameModel loads numberedLog numberedModel
     sentLog sweep sweepLog tickLog tickModel
     answering.acted answering.queried answering.actedBy answering.answered answering.byteAt answering.latched lightMeaning meant meantIn markOf
     after decided deadTime due fallen fallenReport reportTime started startedReport bytesOf encoded
-    sensors.declared sensors.fresh sensors.lightFresh allows cause information input modelled repeat resolution rules sent taken units
+    sensors.declared sensors.fresh sensors.lightFresh allows cause information input repeat resolution rules sent taken units
     lightAllows lightCause lightInformation lightInput lightRepeat lightSent lightTaken minimum moved outside width
     closed goesBack holding kindAfter sentAfter ticked widened
 computing = tt

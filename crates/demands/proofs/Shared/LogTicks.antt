@@ -105,14 +105,14 @@ sweep-lies now j most (x ∷ xs) h =
 module _ (m : Model) where
   logs-rise : (h : Happening) → Rises (m .tick) (logs m h)
   unfolding tickLog
-  logs-rise (declare type resolution) = tt
+  logs-rise (declare sensor) = tt
   logs-rise (hold i sample) = tt
   logs-rise (frame first second third) = frame-lies m first second third .0
   logs-rise tick = sweep-rises (m .tick + 1) 0 (take (m .declared) (m .instances)) (omega arith)
 
   logs-lie : (h : Happening) → Every (Lies (m .tick) (m .tick + rises h) (most m)) (logs m h)
   unfolding tickLog
-  logs-lie (declare type resolution) = tt
+  logs-lie (declare sensor) = tt
   logs-lie (hold i sample) = tt
   logs-lie (frame first second third) = every-as (wider (omega arith) (omega arith) (omega arith)) (frameLog m first second third) (frame-lies m first second third .1)
   logs-lie tick = sweep-lies (m .tick) 0 (most m) (take (m .declared) (m .instances)) (rw length-take (omega arith))
@@ -183,7 +183,7 @@ run-climbs i m (h ∷ hs) = rw (events-append i (logs m h) (logAfter (happen m h
     rest h = eventsOf i (logAfter (happen m h) hs)
 
     by : (h : Happening) → happen m h .tick ≡ m .tick + rises h → Climbs (happen m h .tick) (rest h) → Climbs (m .tick) (eventsOf i (logs m h) ++ rest h)
-    by (declare type resolution) e c = climbs-from (m .tick) _ (rest (declare type resolution)) (omega arith) c
+    by (declare sensor) e c = climbs-from (m .tick) _ (rest (declare sensor)) (omega arith) c
     by (hold j sample) e c = climbs-from (m .tick) _ (rest (hold j sample)) (omega arith) c
     by (frame a b d) e c = rw (events-frame i m a b d) (climbs-from (m .tick) _ (rest (frame a b d)) (omega arith) c)
     by tick e c = let (b, once) = events-once i m in rw once (climbs-noted b (m .tick) (rest tick) (subst (λ t. Climbs t (rest tick)) e c))

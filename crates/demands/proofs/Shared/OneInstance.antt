@@ -29,33 +29,33 @@ use native.Mathlib.Omega.{arith}
 module _ (m : Model) where
   pub happen-tick : (h : Happening) → happen m h .tick ≡ m .tick + rises h
   unfolding heldModel tickModel
-  happen-tick (declare type resolution) = declared-tick m type resolution ∙ sym (add-zero (m .tick))
+  happen-tick (declare sensor) = declared-tick m sensor ∙ sym (add-zero (m .tick))
   happen-tick (hold i sample) = sym (add-zero (m .tick))
   happen-tick (frame first second third) = frame-tick m first second third ∙ sym (add-zero (m .tick))
   happen-tick tick = refl
 
   pub last-kept : (h : Happening) → happen m h .last ≡ m .last
   unfolding heldModel
-  last-kept (declare type resolution) = declared-last m type resolution
+  last-kept (declare sensor) = declared-last m sensor
   last-kept (hold i sample) = refl
   last-kept (frame first second third) = frame-last m first second third
   last-kept tick = tick-last m
 
   pub dtr0-kept : (h : Happening) → loadsDtr0 h ≡ false → happen m h .dtr0 ≡ m .dtr0
   unfolding heldModel tickModel
-  dtr0-kept (declare type resolution) e = declared-dtr0 m type resolution
+  dtr0-kept (declare sensor) e = declared-dtr0 m sensor
   dtr0-kept (hold i sample) e = refl
   dtr0-kept (frame first second third) e = frame-dtr0 m first second third e
   dtr0-kept tick e = refl
 
   pub happen-length : (h : Happening) → length (happen m h .instances) ≡ length (m .instances)
-  happen-length (declare type resolution) = declared-length m type resolution
+  happen-length (declare sensor) = declared-length m sensor
   happen-length (hold i sample) = held-length m i sample
   happen-length (frame first second third) = frame-length m first second third
   happen-length tick = tick-length m
 
   happen-count : (h : Happening) → m .declared ≤ happen m h .declared
-  happen-count (declare type resolution) = declared-more m type resolution
+  happen-count (declare sensor) = declared-more m sensor
   happen-count (hold i sample) = omega (arith, held-declared m i sample)
   happen-count (frame first second third) = omega (arith, frame-declared m first second third)
   happen-count tick = omega (arith, tick-declared m)

@@ -64,7 +64,7 @@ pub comes-taken : (a : Asked) (room : ℕ) (m : Model) (log : List Logged) (m′
     → Comes m log (asksFor a) m′ log′
 unfolding step modelAfter logAfter
 comes-taken (Refused why) room m log m′ log′ e = absurd (taken≢refused (sym e))
-comes-taken (Declare type resolution) room m log m′ log′ e =
+comes-taken (Declare sensor) room m log m′ log′ e =
     let same : log ≡ log′ = cc in
     record { model = cc; logged = append-nil log ∙ same }
 comes-taken (Hold i sample) room m log m′ log′ e =

@@ -48,7 +48,7 @@ module _ (m : Model) (xs : List ℕ) (room : ℕ) (few : length (m .instances) �
   unfolding step
   ticks-some why t m′ log =
       by-kinds (λ a. step a room m [] ≡ refused why t m′ log → numberOf why ≡ 9 → 0 < t) xs m refuse
-      (λ e n. absurd (taken≢refused e)) (λ e n. absurd (taken≢refused e)) (answer (byte xs 2) (byte xs 3) (byte xs 4)) (λ h k e n. tick-some (word xs 2) e)
+      (λ sensor e n. absurd (taken≢refused e)) (λ e n. absurd (taken≢refused e)) (answer (byte xs 2) (byte xs 3) (byte xs 4)) (λ h k e n. tick-some (word xs 2) e)
     where
       refuse : (w : Refusal) → numberOf w ≢ 9 → step (Refused w) room m [] ≡ refused why t m′ log → numberOf why ≡ 9 → 0 < t
       refuse w other e n = let same : w ≡ why = cc in absurd (other (ap numberOf same ∙ n))

@@ -1,0 +1,21 @@
+-- `judging::declaring::declared_by` meets its contract.
+-- Assumes nothing.
+use Rattle.judging.proofs.declaring.declared_by.Statement.{statement}
+use Rattle.judging.proofs.declaring.declared_by.Tie as tie
+use Rattle.judging.specs.Declaring.{declaredBy}
+use borrow.Author.Needs.{needs}
+use borrow.Author.Tests.{ne-eqb}
+
+in-declares-requires : tie.Need-in-declares-requires
+in-declares-requires c κs = search needs
+
+returns : tie.Need-returns
+unfolding declaredBy
+returns c = rw (c .in-declares .ensures, c .before .match .keys1)
+
+returns-2 : tie.Need-returns-2
+unfolding declaredBy
+returns-2 c = rw (ne-eqb _ _ (c .match .rest .1))
+
+pub declared-by-spec : {M : Type 1} → statement M
+declared-by-spec = tie.close (tie.spec in-declares-requires returns returns-2)

@@ -1,0 +1,22 @@
+-- Document 01, "Session and log records" and number 4: what a declaration declares, decided once from its mark, its type and its resolution.
+-- Assumes nothing.
+use Prim.Native.Nat.{ℕ}
+use Rattle.judging.specs.declared.declaring.Declares.the-variants.{Nothing, One}
+use Rattle.judging.specs.declared.declaring.Declares.{Declares}
+use Rattle.record.specs.Marks.{IN}
+use Rattle.sensor.specs.declared.sensors.Sensor.the-variants.{Light, Occupancy}
+use lib.Dec.{eqb, leb}
+use mathlib.Core.Bool.{Bool, cond, _&&_}
+
+-- light has resolution 1 to 24
+unfoldable pub lightHas : (resolution : ℕ) → Bool
+lightHas resolution = leb 1 resolution && leb resolution 24
+
+-- IN: type 3 with resolution 2, or type 4
+unfoldable pub inDeclares : (type resolution : ℕ) → Declares
+inDeclares type resolution =
+    cond (eqb type 3 && eqb resolution 2) (One Occupancy)
+    (cond (eqb type 4 && lightHas resolution) (One (Light resolution)) Nothing)
+
+unfoldable pub declaredBy : (letters type resolution : ℕ) → Declares
+declaredBy letters type resolution = cond (eqb letters IN) (inDeclares type resolution) Nothing

@@ -1,0 +1,42 @@
+// What a declaration declares: decided here, once, from its mark, its type and its resolution.
+use record::Mark;
+use sensor::Light;
+use sensor::Occupancy;
+use sensor::Sensor;
+ghost use Rattle.judging.specs.Declaring.{declaredBy, inDeclares, lightHas};
+ghost use mathlib.Core.Path.{_≡_};
+
+// A sensor, or none that is modelled.
+pub enum Declares {
+    Nothing,
+    One(Sensor),
+}
+
+pub fn declared_by(letters: u16, sensor_type: u8, resolution: u8) -> Declares
+    ensures { λ r. ⌜ r ≡ declaredBy letters «sensor_type» resolution ⌝ }
+{
+    match letters {
+        Mark::IN => in_declares(sensor_type, resolution),
+        _ => Declares::Nothing,
+    }
+}
+
+// Type 3 with resolution 2, or type 4.
+fn in_declares(sensor_type: u8, resolution: u8) -> Declares
+    ensures { λ r. ⌜ r ≡ inDeclares «sensor_type» resolution ⌝ }
+{
+    if (sensor_type == Occupancy::TYPE) & (resolution == Occupancy::RESOLUTION) {
+        return Declares::One(Sensor::Occupancy);
+    }
+    if (sensor_type == Light::TYPE) & light_has(resolution) {
+        return Declares::One(Sensor::Light { resolution });
+    }
+    Declares::Nothing
+}
+
+// Resolution 1 to 24.
+fn light_has(resolution: u8) -> bool
+    ensures { λ r. ⌜ r ≡ lightHas resolution ⌝ }
+{
+    (1 <= resolution) & (resolution <= 24)
+}
