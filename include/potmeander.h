@@ -9,7 +9,7 @@
  *
  * This page is the manual: 1 the archives, 2 a session, 3 frames, 4 when an event goes out, 5 a log, 6 an example, 7 the numbers, 8 the call
  * for a session, 9 the call for two logs, 10 the hour table. It says in short what is proved; the definitions decide (docs/TRUST.md, 1), and above them
- * document 01 with M-102, M-103, M-106 and M-110.
+ * document 01 with M-102, M-103, M-106, M-107 and M-110.
  *
  *
  * 1. THE ARCHIVES
@@ -31,13 +31,16 @@
  *
  *   mark                                    bytes
  *   IN  instance  type  resolution            5    declares an instance
+ *   LO  instance  type  resolution            5    declares a light instance built to the text of 2017 (M-107)
  *   SA  instance  status  value (3)           7    what it measures from now on
  *   FR  byte1  byte2  byte3                   5    a frame on the bus
  *   TK  count (2)                             4    1 to 65,535 ticks of 50 ms pass
  *
- * IN  stands before all other records. Instances are numbered 0, 1, 2, .. in the order of their declarations; there are 16 at most, or none.
- *       type 3, occupancy (presence-based): resolution 2
+ * IN  and LO stand before all other records, in any order. Instances are numbered 0, 1, 2, .. in the order of their declarations, whichever of the
+ *     two declares them; there are 16 at most, or none.
+ *       type 3, occupancy (presence-based): resolution 2; by IN alone
  *       type 4, light: resolution 1 to 24, the bits of a measured value
+ *     What LO declares is light in all that follows, and differs in one thing: the number that its band is taken on (part 4).
  *
  * SA  replaces the sample that the instance holds, and does no more: it shows from the next tick on, and until then queries answer as before.
  *       status              value, light               value, occupancy
@@ -63,7 +66,7 @@
  *   report             30       22       20 ticks (1 s); 0: no reports                         30         20
  *   deadtime           32       23       1 tick; 0: none                                       30          2
  *   hysteresis         31        -       percent; above 25: no change                           5          -
- *   hysteresisMin      33        -       steps of the measured value                   see below          -
+ *   hysteresisMin      33        -       steps of v (part 4)                           see below          -
  *   filter             68       68       the bits that the type has; others are dropped         1          3
  *   priority           61       61       2 to 5, else no change                                 4          4
  *   enable             62       62       DTR0 does not matter                             enabled    enabled
@@ -99,10 +102,11 @@
  * out at t + deadtime (t + 1 for 0), and the report timer, unless report is 0. The report timer runs from the declaration on, and whenever it
  * starts it takes report or deadtime, whichever is longer. So many ticks later a report is due, and it stays due until an event, or until report
  * is set to 0.
- *   Light, if its filter bit is set, sends where a report is due; and, with hysteresis above 0, where the value v is above its band, below it, or
- * there is no band. At any event, a report too: without a band, or with v above it, the band becomes v - width (0 at least) to v; with v below
- * it, v to v + width; else it stays. Both ends belong to the band. The width is v x hysteresis / 100, rounded down, or hysteresisMin if that
- * is more. Not ready and failure discard the band.
+ *   Light, if its filter bit is set, sends where a report is due; and, with hysteresis above 0, where v is above its band, below it, or there is no
+ * band. At any event, a report too: without a band, or with v above it, the band becomes v - width (0 at least) to v; with v below it, v to
+ * v + width; else it stays. Both ends belong to the band. The width is v x hysteresis / 100, rounded down, or hysteresisMin if that is more.
+ * Not ready and failure discard the band. For light declared by IN v is the measured value; for light declared by LO it is the input value, the
+ * measured one filled out to whole bytes (part 3). At resolution 8, 16 and 24 the two are the same number.
  *   Occupancy compares each valid value with the valid one before it, at first with 0: Occupied and Vacant where bit 1 rose or fell, Movement and
  * No movement where bit 0 did. Such a trigger waits, if its filter bit is set and the instance enabled when it comes. One event clears all that
  * wait, opposite ones too; so do disabling and a failure, and a new filter drops those it does not allow. An event goes out where one waits, or
@@ -152,10 +156,10 @@ extern "C" {
  * 9. */
 enum {
     POTMEANDER_TAKEN = 0,           /* all records were taken; an empty session too */
-    POTMEANDER_UNKNOWN_MARK = 1,    /* the mark is none of IN, SA, FR, TK; in a log (parts 9 and 10), none of EV, AN */
+    POTMEANDER_UNKNOWN_MARK = 1,    /* the mark is none of IN, LO, SA, FR, TK; in a log (parts 9 and 10), none of EV, AN */
     POTMEANDER_CUT = 2,             /* fewer bytes remain than the mark, or the record, needs */
-    POTMEANDER_LATE_OR_SKIPPED = 3, /* IN after a record of another kind, or its number is not the next, from 0 */
-    POTMEANDER_NO_SUCH_SENSOR = 4,  /* IN: number 16, after 16 others, or a type and resolution that are not modelled */
+    POTMEANDER_LATE_OR_SKIPPED = 3, /* IN or LO after a record of another kind, or its number is not the next, from 0 */
+    POTMEANDER_NO_SUCH_SENSOR = 4,  /* IN or LO: number 16, after 16 others, or a type and resolution that it does not declare */
     POTMEANDER_UNDECLARED = 5,      /* SA for an instance that was not declared */
     POTMEANDER_BAD_SAMPLE = 6,      /* SA: a status or a value that the type does not allow */
     POTMEANDER_NO_TICKS = 7,        /* TK with count 0 */

@@ -1,4 +1,4 @@
--- Document 01, "Numbers given when a record is not taken", with M-106 and M-110: the table, each row as a condition on what is left of a session and on the model.
+-- Document 01, "Numbers given when a record is not taken", with M-106, M-107 and M-110: the table, each row as a condition on what is left of a session and on the model.
 -- Order: mark present (2), mark known (1), record whole (2), then the record's own numbers in rising order. And "Session and log records": the
 -- four kinds of a session's records.
 -- Assumes nothing.
@@ -37,6 +37,13 @@ Marked letters rest = (2 ≤ length rest) × (word rest 0 ≡ letters)
 abbrev pub IN : List ℕ → Type 0
 IN rest = Marked marks.IN rest
 
+abbrev pub LO : List ℕ → Type 0
+LO rest = Marked marks.LO rest
+
+-- M-107: IN and LO are one kind of record
+abbrev pub Declaring : List ℕ → Type 0
+Declaring rest = IN rest ⊎ LO rest
+
 abbrev pub SA : List ℕ → Type 0
 SA rest = Marked marks.SA rest
 
@@ -50,10 +57,11 @@ TK rest = Marked marks.TK rest
 abbrev pub Names : List ℕ → Sensor → Type 0
 Names rest sensors.Occupancy = IN rest × (byte rest 3 ≡ 3) × (byte rest 4 ≡ 2)
 Names rest (sensors.Light resolution) = IN rest × (byte rest 3 ≡ 4) × (byte rest 4 ≡ resolution) × (1 ≤ resolution) × (resolution ≤ 24)
+Names rest (sensors.LightOf2017 resolution) = LO rest × (byte rest 3 ≡ 4) × (byte rest 4 ≡ resolution) × (1 ≤ resolution) × (resolution ≤ 24)
 
 -- ---- the four kinds: the record at the front of `rest` by its mark, its size, and what it tells of
 pub data Front (rest : List ℕ) : (size : ℕ) → List Happening → Type 0 where
-  -- IN: instance number, type, resolution
+  -- IN, LO: instance number, type, resolution
   declares : (sensor : Sensor) → Names rest sensor → Front rest (markSize Declaration) (declare sensor ∷ [])
   -- SA: instance, status, value (3 bytes)
   holds : SA rest → Front rest (markSize Measurement) (hold (byte rest 2) (sampleIn rest) ∷ [])
@@ -67,10 +75,13 @@ pub data Front (rest : List ℕ) : (size : ℕ) → List Happening → Type 0 wh
 abbrev pub Late : List ℕ → Model → Type 0
 Late rest m = (m .running ≡ true) ⊎ (byte rest 2 ≢ m .declared)
 
--- "IN number 16 or above; type not 3 or 4; type 3 with resolution not 2; type 4 with resolution outside 1 to 24"
-abbrev pub NoSensor : (instance type resolution : ℕ) → Type 0
-NoSensor instance type resolution =
-    (16 ≤ instance) ⊎ ((type ≢ 3) × (type ≢ 4)) ⊎ ((type ≡ 3) × (resolution ≢ 2)) ⊎ ((type ≡ 4) × ((resolution < 1) ⊎ (24 < resolution)))
+-- "IN number 16 or above; type not 3 or 4; type 3 with resolution not 2; type 4 with resolution outside 1 to 24"; and M-107: "LO obeys refusals 3
+-- and 4 as IN, any type but 4 being 4"
+abbrev pub NoSensor : List ℕ → Type 0
+NoSensor rest =
+    (16 ≤ byte rest 2)
+    ⊎ (IN rest × (byte rest 3 ≢ 3) × (byte rest 3 ≢ 4)) ⊎ (IN rest × (byte rest 3 ≡ 3) × (byte rest 4 ≢ 2)) ⊎ (LO rest × (byte rest 3 ≢ 4))
+    ⊎ ((byte rest 3 ≡ 4) × ((byte rest 4 < 1) ⊎ (24 < byte rest 4)))
 
 -- an instance that is declared; there are at most sixteen
 abbrev pub Declared : Model → (i : ℕ) → Type 0
@@ -103,16 +114,16 @@ measuredIn i (h ∷ hs) = measures i h || measuredIn i hs
 -- ---- the table: the record at the front of `rest` is refused so, in a device m
 abbrev pub Given : Refusal → List ℕ → Model → Type 0
 -- 1: mark unknown
-Given UnknownMark rest m = (2 ≤ length rest) × (IN rest → ⊥) × (SA rest → ⊥) × (FR rest → ⊥) × (TK rest → ⊥)
+Given UnknownMark rest m = (2 ≤ length rest) × (IN rest → ⊥) × (LO rest → ⊥) × (SA rest → ⊥) × (FR rest → ⊥) × (TK rest → ⊥)
 -- 2: fewer bytes remain than the mark, or the record, needs
 Given Cut rest m =
     (length rest < 2)
-    ⊎ (IN rest × (length rest < markSize Declaration)) ⊎ (SA rest × (length rest < markSize Measurement))
+    ⊎ (Declaring rest × (length rest < markSize Declaration)) ⊎ (SA rest × (length rest < markSize Measurement))
     ⊎ (FR rest × (length rest < markSize Bus)) ⊎ (TK rest × (length rest < markSize Time))
--- 3: IN after a record of another kind, or its number isn't the next, from 0
-Given LateOrSkipped rest m = IN rest × (markSize Declaration ≤ length rest) × Late rest m
+-- 3: IN or LO after a record of another kind, or its number isn't the next, from 0
+Given LateOrSkipped rest m = Declaring rest × (markSize Declaration ≤ length rest) × Late rest m
 -- 4: no such sensor
-Given NoSuchSensor rest m = IN rest × (markSize Declaration ≤ length rest) × (Late rest m → ⊥) × NoSensor (byte rest 2) (byte rest 3) (byte rest 4)
+Given NoSuchSensor rest m = Declaring rest × (markSize Declaration ≤ length rest) × (Late rest m → ⊥) × NoSensor rest
 -- 5: SA for an undeclared instance
 Given Undeclared rest m = SA rest × (markSize Measurement ≤ length rest) × (Declared m (byte rest 2) → ⊥)
 -- 6: SA status or value not allowed

@@ -1,10 +1,10 @@
--- Document 01, "Session and log records" and number 4: what a declaration declares, decided once from its mark, its type and its resolution.
+-- Document 01, "Session and log records" and number 4, with M-107: what a declaration declares, decided once from its mark, its type and its resolution.
 -- Assumes nothing.
 use Prim.Native.Nat.{ℕ}
 use Rattle.judging.specs.declared.declaring.Declares.the-variants.{Nothing, One}
 use Rattle.judging.specs.declared.declaring.Declares.{Declares}
-use Rattle.record.specs.Marks.{IN}
-use Rattle.sensor.specs.declared.sensors.Sensor.the-variants.{Light, Occupancy}
+use Rattle.record.specs.Marks.{IN, LO}
+use Rattle.sensor.specs.declared.sensors.Sensor.the-variants.{Light, LightOf2017, Occupancy}
 use lib.Dec.{eqb, leb}
 use mathlib.Core.Bool.{Bool, cond, _&&_}
 
@@ -18,5 +18,9 @@ inDeclares type resolution =
     cond (eqb type 3 && eqb resolution 2) (One Occupancy)
     (cond (eqb type 4 && lightHas resolution) (One (Light resolution)) Nothing)
 
+-- M-107, LO: type 4 alone
+unfoldable pub loDeclares : (type resolution : ℕ) → Declares
+loDeclares type resolution = cond (eqb type 4 && lightHas resolution) (One (LightOf2017 resolution)) Nothing
+
 unfoldable pub declaredBy : (letters type resolution : ℕ) → Declares
-declaredBy letters type resolution = cond (eqb letters IN) (inDeclares type resolution) Nothing
+declaredBy letters type resolution = cond (eqb letters IN) (inDeclares type resolution) (cond (eqb letters LO) (loDeclares type resolution) Nothing)

@@ -3,7 +3,7 @@ use record::Mark;
 use sensor::Light;
 use sensor::Occupancy;
 use sensor::Sensor;
-ghost use Rattle.judging.specs.Declaring.{declaredBy, inDeclares, lightHas};
+ghost use Rattle.judging.specs.Declaring.{declaredBy, inDeclares, lightHas, loDeclares};
 ghost use mathlib.Core.Path.{_≡_};
 
 // A sensor, or none that is modelled.
@@ -17,6 +17,7 @@ pub fn declared_by(letters: u16, sensor_type: u8, resolution: u8) -> Declares
 {
     match letters {
         Mark::IN => in_declares(sensor_type, resolution),
+        Mark::LO => lo_declares(sensor_type, resolution),
         _ => Declares::Nothing,
     }
 }
@@ -30,6 +31,16 @@ fn in_declares(sensor_type: u8, resolution: u8) -> Declares
     }
     if (sensor_type == Light::TYPE) & light_has(resolution) {
         return Declares::One(Sensor::Light { resolution });
+    }
+    Declares::Nothing
+}
+
+// Type 4 alone (M-107).
+fn lo_declares(sensor_type: u8, resolution: u8) -> Declares
+    ensures { λ r. ⌜ r ≡ loDeclares «sensor_type» resolution ⌝ }
+{
+    if (sensor_type == Light::TYPE) & light_has(resolution) {
+        return Declares::One(Sensor::LightOf2017 { resolution });
     }
     Declares::Nothing
 }

@@ -3,7 +3,7 @@
 use Rattle.sensor.specs.Fresh as sensors
 use Rattle.sensor.specs.Kind.{rules}
 use Rattle.sensor.specs.declared.instance.Instance.{Instance}
-use Rattle.sensor.specs.declared.sensors.Sensor.the-variants.{Light, Occupancy}
+use Rattle.sensor.specs.declared.sensors.Sensor.the-variants.{Light, LightOf2017, Occupancy}
 use Rattle.sensor.specs.declared.sensors.Sensor.{Sensor}
 use Rattle.timers.specs.Timers.{startedReport}
 use mathlib.Core.Bool.{false, true}
@@ -19,3 +19,4 @@ pub fresh : (sensor : Sensor) → Fresh (sensors.declared sensor)
 unfolding sensors.declared sensors.occupancyFresh sensors.lightFresh sensors.fresh
 fresh Occupancy = record { on = refl; dead = refl; report = refl; measured = refl }
 fresh (Light resolution) = record { on = refl; dead = refl; report = refl; measured = refl }
+fresh (LightOf2017 resolution) = record { on = refl; dead = refl; report = refl; measured = refl }

@@ -3,7 +3,7 @@
 use Prim.Native.Nat.{ℕ, suc, _%_, _/_, _<_}
 use Rattle.sensor.proofs.Laws.{both, only-valid, sent-decided}
 use Rattle.sensor.specs.Kind.{cause, rules, sent, taken}
-use Rattle.sensor.specs.Light.{lightSent, lightTaken}
+use Rattle.sensor.specs.Light.{lightSent, lightTaken, withBand, withShown}
 use Rattle.sensor.specs.Occupancy.{change, occupancySent, occupancyTaken, triggers, waits}
 use Rattle.sensor.specs.Quiet.{lightSettled, noBand, occupancySettled, quietFor, rested, settled, steady}
 use Rattle.sensor.specs.Tick.{closed, decisionAt, kindAfter, sentAfter, takenKind, ticked, valid}
@@ -61,7 +61,7 @@ light-stays l held e =
     let value = sym (eqb-true _ _ (q .0)) in
     let status = sym (eqb-true _ _ (q .1)) in
     let band = band-stays (eqb (held .status) 0) (l .band) (p .1) in
-    λ i. record { resolution = l .resolution; shown = record { status = status i; value = value i }; band = band i }
+    λ i. withShown (record { status = status i; value = value i }) (withBand (band i) l)
 
 change-none : (x up down : ℕ) → change x x up down ≡ 0
 unfolding change

@@ -52,6 +52,8 @@ use Rattle.sensor.proofs.light.Light.allows.Kinds as Light-allows-kinds
 use Rattle.sensor.proofs.light.Light.allows.Reads as Light-allows
 use Rattle.sensor.proofs.light.Light.cause.Kinds as Light-cause-kinds
 use Rattle.sensor.proofs.light.Light.cause.Reads as Light-cause
+use Rattle.sensor.proofs.light.Light.compared.Kinds as Light-compared-kinds
+use Rattle.sensor.proofs.light.Light.compared.Reads as Light-compared
 use Rattle.sensor.proofs.light.Light.fresh.Kinds as Light-fresh-kinds
 use Rattle.sensor.proofs.light.Light.fresh.Reads as Light-fresh
 use Rattle.sensor.proofs.light.Light.information.Kinds as Light-information-kinds
@@ -159,6 +161,9 @@ Light-allows-unique κs a x y s t p q = p ∙ sym q
 
 pub Light-taken-unique : Unique 0 Light-taken-kinds.ps Light-taken-kinds.r Light-taken.Post
 Light-taken-unique κs a x y s t p q = p ∙ sym q
+
+pub Light-compared-unique : Unique 0 Light-compared-kinds.ps Light-compared-kinds.r Light-compared.Post
+Light-compared-unique κs a x y s t p q = p ∙ sym q
 
 pub Light-cause-unique : Unique 0 Light-cause-kinds.ps Light-cause-kinds.r Light-cause.Post
 Light-cause-unique κs a x y s t p q = p ∙ sym q

@@ -10,6 +10,8 @@ use Rattle.sensor.specs.declared.instance.Instance.{Instance}
 use Rattle.sensor.specs.declared.kind.Kind.the-variants.{Light, Occupancy}
 use Rattle.sensor.specs.declared.kind.Kind.{Kind}
 use Rattle.sensor.specs.declared.light.Band.the-variants.{Nowhere}
+use Rattle.sensor.specs.declared.light.Basis.the-variants.{Measured, Padded}
+use Rattle.sensor.specs.declared.light.Basis.{Basis}
 use Rattle.sensor.specs.declared.sensors.Sensor.the-variants as sensors
 use Rattle.sensor.specs.declared.sensors.Sensor.{Sensor}
 use Rattle.sensor.specs.declared.settings.Sample.{Sample}
@@ -21,8 +23,8 @@ use Rattle.timers.specs.declared.Report.the-variants.{Stopped}
 unfoldable pub fresh : Kind → Settings → (held : Sample) → Instance
 fresh k s held = untouched k s (record { dead = 0; report = startedReport (rules k s) }) held
 
-unfoldable pub lightFresh : (resolution : ℕ) → Instance
-lightFresh resolution = fresh (Light (lightStart resolution)) (lightSettings resolution) unready
+unfoldable pub lightFresh : Basis → (resolution : ℕ) → Instance
+lightFresh basis resolution = fresh (Light (lightStart basis resolution)) (lightSettings resolution) unready
 
 unfoldable pub occupancyFresh : Instance
 occupancyFresh = fresh (Occupancy occupancyStart) occupancySettings still
@@ -30,13 +32,14 @@ occupancyFresh = fresh (Occupancy occupancyStart) occupancySettings still
 -- what each sensor that a declaration declares is
 unfoldable pub declared : Sensor → Instance
 declared sensors.Occupancy = occupancyFresh
-declared (sensors.Light resolution) = lightFresh resolution
+declared (sensors.Light resolution) = lightFresh Measured resolution
+declared (sensors.LightOf2017 resolution) = lightFresh Padded resolution
 
 -- what stands where nothing was declared: every number 0, every enum at its first variant
 abbrev pub blank : Instance
 blank =
     untouched
-    (Light (record { resolution = 0; shown = record { status = 0; value = 0 }; band = Nowhere }))
+    (Light (record { basis = Measured; resolution = 0; shown = record { status = 0; value = 0 }; band = Nowhere }))
     noSettings
     (record { dead = 0; report = Stopped })
     (record { status = 0; value = 0 })

@@ -4,6 +4,8 @@ use Prim.Native.Nat.{ℕ, _%_, _*_, _+_, _-_, _/_, _^_, max, min}
 use Rattle.sensor.specs.Settings.{noSettings, withDeadtime, withEnabled, withFilter, withHysteresis, withMinimum, withPriority, withReport}
 use Rattle.sensor.specs.declared.light.Band.the-variants.{Between, Nowhere}
 use Rattle.sensor.specs.declared.light.Band.{Band}
+use Rattle.sensor.specs.declared.light.Basis.the-variants.{Measured, Padded}
+use Rattle.sensor.specs.declared.light.Basis.{Basis}
 use Rattle.sensor.specs.declared.light.Light.{Light}
 use Rattle.sensor.specs.declared.settings.Sample.{Sample}
 use Rattle.sensor.specs.declared.settings.Settings.{Settings}
@@ -28,12 +30,27 @@ lightSettings resolution =
 abbrev pub unready : Sample
 unready = record { status = 1; value = 0 }
 
-abbrev pub lightStart : (resolution : ℕ) → Light
-lightStart resolution = record { resolution = resolution; shown = unready; band = Nowhere }
+abbrev pub lightStart : Basis → (resolution : ℕ) → Light
+lightStart basis resolution = record { basis = basis; resolution = resolution; shown = unready; band = Nowhere }
+
+-- the sensor with what it shows, or its band, changed: only these and the one above list every part
+abbrev pub withShown : Sample → Light → Light
+withShown sample l = record { basis = l .basis; resolution = l .resolution; shown = sample; band = l .band }
+
+abbrev pub withBand : Band → Light → Light
+withBand band l = record { basis = l .basis; resolution = l .resolution; shown = l .shown; band = band }
 
 -- ---- samples: 0 to 2^resolution - 2 with status 0; with status 1 or 2 the value must be 0
 unfoldable pub lightAllows : Light → Sample → Bool
 lightAllows l sample = cond (eqb (sample .status) 0) (ltb (sample .value) (2 ^ (l .resolution) - 1)) (leb (sample .status) 2 && eqb (sample .value) 0)
+
+-- ---- the number that band, width and comparison are taken on, v: the measured value; and for LO inputValue of it (M-107)
+abbrev pub comparedBy : Basis → (value resolution : ℕ) → ℕ
+comparedBy Measured value resolution = value
+comparedBy Padded value resolution = widths.inputValue value resolution
+
+unfoldable pub compared : Light → ℕ
+compared l = comparedBy (l .basis) (l .shown .value) (l .resolution)
 
 -- ---- the band
 -- the larger of hysteresisMin and v x hysteresis / 100 rounded down
@@ -54,7 +71,7 @@ moved (Between low high) v wide = cond (ltb high v) (Between (v - wide) v) (cond
 -- ---- what a tick asks of the type
 -- the held sample is taken; status 1 or 2 discards the band
 unfoldable pub lightTaken : Light → (held : Sample) → Light
-lightTaken l held = record { resolution = l .resolution; shown = held; band = cond (eqb (held .status) 0) (l .band) Nowhere }
+lightTaken l held = withShown held (withBand (cond (eqb (held .status) 0) (l .band) Nowhere) l)
 
 -- filter bit 0
 unfoldable pub lightRepeat : Settings → Bool
@@ -62,16 +79,11 @@ lightRepeat s = eqb (s .filter % 2) 1
 
 -- filter bit 0 is set, hysteresis is above 0, and v is outside the band
 unfoldable pub lightCause : Light → Settings → Bool
-lightCause l s = (lightRepeat s && ltb 0 (s .hysteresis)) && outside (l .band) (l .shown .value)
+lightCause l s = (lightRepeat s && ltb 0 (s .hysteresis)) && outside (l .band) (compared l)
 
 -- as an event leaves it: the width is taken at the event
 unfoldable pub lightSent : Light → Settings → Light
-lightSent l s =
-    record {
-      resolution = l .resolution;
-      shown = l .shown;
-      band = moved (l .band) (l .shown .value) (width (l .shown .value) (s .hysteresis) (s .minimum));
-    }
+lightSent l s = withBand (moved (l .band) (compared l) (width (compared l) (s .hysteresis) (s .minimum))) l
 
 -- ten bits of the measured value
 unfoldable pub lightInformation : Light → ℕ

@@ -1,5 +1,6 @@
 // One instance, and its tick.
 use crate::kind::Kind;
+use crate::light::Basis;
 use crate::light::Light;
 use crate::occupancy::Occupancy;
 use crate::sensors::Sensor;
@@ -67,7 +68,8 @@ impl Instance {
     {
         match sensor {
             Sensor::Occupancy => Occupancy::fresh(),
-            Sensor::Light { resolution } => Light::fresh(resolution),
+            Sensor::Light { resolution } => Light::fresh(Basis::Measured, resolution),
+            Sensor::LightOf2017 { resolution } => Light::fresh(Basis::Padded, resolution),
         }
     }
 

@@ -13,6 +13,7 @@ pub use instance::Sent;
 pub use instance::Ticked;
 pub use kind::Kind;
 pub use light::Band;
+pub use light::Basis;
 pub use light::Light;
 pub use occupancy::Occupancy;
 pub use sensors::Sensor;

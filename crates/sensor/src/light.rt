@@ -1,4 +1,4 @@
-// The light sensor (type 4; IEC 62386-304). Band, width and comparison are on the measured value, never on the padded one.
+// The light sensor (type 4; IEC 62386-304). Band, width and comparison are on one number, `compared`, and on no other.
 use crate::instance::Instance;
 use crate::kind::Kind;
 use crate::settings::Sample;
@@ -6,13 +6,19 @@ use crate::settings::Settings;
 use timers::Units;
 ghost use Prim.Native.Nat.{_-_, _<_, _^_};
 ghost use Rattle.sensor.specs.Fresh.{lightFresh};
-ghost use Rattle.sensor.specs.Light.{lightAllows, lightCause, lightInformation, lightInput, lightRepeat, lightSent, lightTaken, minimum, moved, outside, width};
+ghost use Rattle.sensor.specs.Light.{compared, lightAllows, lightCause, lightInformation, lightInput, lightRepeat, lightSent, lightTaken, minimum, moved, outside, width};
 ghost use Rattle.sensor.specs.Quiet.{lightSettled, noBand};
 ghost use Rattle.sensor.specs.declared.light.Band.the-variants.{Between};
 ghost use lib.Dec.{ltb};
 ghost use mathlib.Core.Path.{_≡_};
 
-// Where the measured value may lie without a trigger.
+// What is compared: the measured value, as the amendment of 2024 has it, or inputValue of it, as the text of 2017 had it (M-107).
+pub enum Basis {
+    Measured,
+    Padded,
+}
+
+// Where the number compared may lie without a trigger.
 pub enum Band {
     Nowhere,
     Between { low: u64, high: u64 },
@@ -20,6 +26,7 @@ pub enum Band {
 
 // shown: the sample of the last tick.
 pub struct Light {
+    pub basis: Basis,
     pub resolution: u8,
     pub shown: Sample,
     pub band: Band,
@@ -63,8 +70,8 @@ impl Light {
 
     pub const QUERY_HYSTERESIS: u8 = 0x3F;
 
-    pub fn fresh(resolution: u8) -> Instance
-        ensures { λ r. ⌜ r ≡ lightFresh resolution ⌝ }
+    pub fn fresh(basis: Basis, resolution: u8) -> Instance
+        ensures { λ r. ⌜ r ≡ lightFresh basis resolution ⌝ }
     {
         let none = Settings::NONE;
         let settings = Settings {
@@ -82,6 +89,7 @@ impl Light {
             value: 0,
         };
         let light = Light {
+            basis,
             resolution,
             shown: unready,
             band: Band::Nowhere,
@@ -104,19 +112,29 @@ impl Light {
     pub fn taken(self, held: Sample) -> Light
         ensures { λ r. ⌜ r ≡ lightTaken self held ⌝ }
     {
-        let band = self.band;
         if held.status == 0 {
             Light {
-                resolution: self.resolution,
                 shown: held,
-                band,
+                ..self
             }
         } else {
             Light {
-                resolution: self.resolution,
                 shown: held,
                 band: Band::Nowhere,
+                ..self
             }
+        }
+    }
+
+    // The number that band, width and comparison are taken on.
+    pub fn compared(self) -> u32
+        ensures { λ r. ⌜ r ≡ compared self ⌝ }
+    {
+        let basis = self.basis;
+        let shown = self.shown;
+        match basis {
+            Basis::Measured => shown.value,
+            Basis::Padded => widen::input_value(shown.value, self.resolution),
         }
     }
 
@@ -125,8 +143,7 @@ impl Light {
         ensures { λ r. ⌜ r ≡ lightCause self settings ⌝ }
     {
         let band = self.band;
-        let shown = self.shown;
-        Light::repeat(settings) & (0 < settings.hysteresis) & band.outside(shown.value)
+        Light::repeat(settings) & (0 < settings.hysteresis) & band.outside(self.compared())
     }
 
     // Filter bit 0 lets every light event out, the due report too.
@@ -141,11 +158,9 @@ impl Light {
         ensures { λ r. ⌜ r ≡ lightSent self settings ⌝ }
     {
         let band = self.band;
-        let shown = self.shown;
         Light {
-            resolution: self.resolution,
-            shown,
-            band: band.moved(shown.value, settings),
+            band: band.moved(self.compared(), settings),
+            ..self
         }
     }
 

@@ -2,4 +2,6 @@
 pub enum Sensor {
     Occupancy,
     Light { resolution: u8 },
+    // Built to the text of 2017 (M-107).
+    LightOf2017 { resolution: u8 },
 }

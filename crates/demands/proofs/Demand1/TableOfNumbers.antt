@@ -3,8 +3,8 @@
 use Prim.Native.Nat.{ℕ, _+_, _-_, _<_, _^_, _≤_}
 use Rattle.demands.proofs.Demand1.Tells.{Tells, fails, holds, tells-and, tells-as, tells-bool, tells-cond, tells-eqb, tells-leb, tells-ltb, tells-not, tells-or}
 use Rattle.demands.proofs.Shared.Declarations.{declared-none, none-declared}
-use Rattle.demands.proofs.Shared.Marks.{MarkIs, fr-asked, in-asked, mark-is, sa-asked, tk-asked, unknown-mark}
-use Rattle.demands.specs.Numbers.{Allowed, Declared, FR, Given, GoesBack, IN, Late, NoSensor, SA, TK}
+use Rattle.demands.proofs.Shared.Marks.{MarkIs, declaring-asked, fr-asked, mark-is, sa-asked, tk-asked, unknown-mark}
+use Rattle.demands.specs.Numbers.{Allowed, Declared, Declaring, FR, Given, GoesBack, Late, NoSensor, SA, TK}
 use Rattle.device.specs.Device.{allowed, instanceAt, known}
 use Rattle.device.specs.declared.model.Model.{Model}
 use Rattle.judging.proofs.Asking.{marked}
@@ -85,7 +85,7 @@ back-tells x s = tells-and (tells-bool (x .measured)) (tells-eqb (s .status) 1)
 
 module _ (rest : List ℕ) (m : Model) where
   -- ---- a row that holds is given
-  no-sensor : IN rest → NoSensor (byte rest 2) (byte rest 3) (byte rest 4)
+  no-sensor : Declaring rest → NoSensor rest
       → cond (ltb (byte rest 2) 16) (sensorAsked (declaredIn rest)) (Refused NoSuchSensor) ≡ Refused NoSuchSensor
   no-sensor k s = go (decLt (byte rest 2) 16)
     where
@@ -95,15 +95,15 @@ module _ (rest : List ℕ) (m : Model) where
 
   pub given : AllBytes rest → (why : Refusal) → Given why rest m → asked rest m ≡ Refused why
   unfolding asked askedBy declareAsked sampleAsked frameAsked ticksAsked
-  given bytes UnknownMark (l, a, b, c, d) = marked rest m l ∙ rw (unknown-mark rest l (a, b, c, d))
+  given bytes UnknownMark (l, a, o, b, c, d) = marked rest m l ∙ rw (unknown-mark rest l (a, o, b, c, d))
   given bytes Cut (inl h) = rw (lt-ltb (length rest) 2 h)
-  given bytes Cut (inr (inl (k, h))) = in-asked rest m k ∙ rw (lt-ltb (length rest) (markSize Declaration) h)
+  given bytes Cut (inr (inl (k, h))) = declaring-asked rest m k ∙ rw (lt-ltb (length rest) (markSize Declaration) h)
   given bytes Cut (inr (inr (inl (k, h)))) = sa-asked rest m k ∙ rw (lt-ltb (length rest) (markSize Measurement) h)
   given bytes Cut (inr (inr (inr (inl (k, h))))) = fr-asked rest m k ∙ rw (lt-ltb (length rest) (markSize Bus) h)
   given bytes Cut (inr (inr (inr (inr (k, h))))) = tk-asked rest m k ∙ rw (lt-ltb (length rest) (markSize Time) h)
-  given bytes LateOrSkipped (k, h, late) = in-asked rest m k ∙ rw (le-ltb (length rest) (markSize Declaration) h, holds (late-tells rest m) late)
+  given bytes LateOrSkipped (k, h, late) = declaring-asked rest m k ∙ rw (le-ltb (length rest) (markSize Declaration) h, holds (late-tells rest m) late)
   given bytes NoSuchSensor (k, h, n, s) =
-      in-asked rest m k
+      declaring-asked rest m k
       ∙ rw (
         le-ltb (length rest) (markSize Declaration) h,
         fails (late-tells rest m) n,
@@ -142,9 +142,9 @@ module _ (rest : List ℕ) (m : Model) where
   Says (Frame first second third) = Unit {0}
   Says (Ticks n) = Unit {0}
 
-  in-says : IN rest → Says (declareAsked rest m)
+  declaring-says : Declaring rest → Says (declareAsked rest m)
   unfolding declareAsked
-  in-says k =
+  declaring-says k =
       go (ltb (length rest) (markSize Declaration)) refl (m .running || not (eqb (byte rest 2) (m .declared))) refl
       (ltb (byte rest 2) 16) refl (declaredIn rest) refl
     where
@@ -212,8 +212,8 @@ module _ (rest : List ℕ) (m : Model) where
   says bytes = go (ltb (length rest) 2) refl
     where
       by : (k : Mark) → 2 ≤ length rest → MarkIs k rest → Says (askedBy k rest m)
-      by Unknown l (a, b, c, d) = (l, a, b, c, d)
-      by Declaration l k = in-says k
+      by Unknown l (a, o, b, c, d) = (l, a, o, b, c, d)
+      by Declaration l k = declaring-says k
       by Measurement l k = sa-says k
       by Bus l k = fr-says k
       by Time l k = tk-says k

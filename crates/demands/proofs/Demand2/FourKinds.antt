@@ -3,9 +3,9 @@
 use Prim.Native.Nat.{ℕ, _+_, _-_, _<_, _≤_}
 use Rattle.demands.proofs.Demand1.{number-exactly}
 use Rattle.demands.proofs.Shared.Declarations.{Either, either, named, named-by}
-use Rattle.demands.proofs.Shared.Marks.{MarkIs, fr-asked, in-asked, mark-is, sa-asked, tk-asked}
+use Rattle.demands.proofs.Shared.Marks.{MarkIs, declaring-asked, fr-asked, mark-is, sa-asked, tk-asked}
 use Rattle.demands.specs.Happenings.{Happening, asksFor}
-use Rattle.demands.specs.Numbers.{Front, IN, Names, NoneGiven, declares, frames, holds, passes}
+use Rattle.demands.specs.Numbers.{Declaring, Front, Names, NoneGiven, declares, frames, holds, passes}
 use Rattle.device.specs.Device.{allowed, instanceAt, known}
 use Rattle.device.specs.declared.model.Model.{Model}
 use Rattle.judging.specs.Asked.{asked, declareAsked, declaredIn, frameAsked, sampleAsked, sampleIn, sensorAsked, sizeOf, ticksAsked}
@@ -37,7 +37,7 @@ pub record Asks (zs : List ℕ) (m : Model) (size : ℕ) (hs : List Happening) :
 
 module _ (zs : List ℕ) (m : Model) (bytes : AllBytes zs) (none : NoneGiven zs m) where
   -- a declaration names a sensor
-  sensor-there : IN zs → (sensor : Sensor) × Names zs sensor
+  sensor-there : Declaring zs → (sensor : Sensor) × Names zs sensor
   sensor-there k = go (either zs k) (decLt (length zs) (markSize Declaration))
     where
       go : Either zs → Dec (length zs < markSize Declaration) → (sensor : Sensor) × Names zs sensor
@@ -51,7 +51,7 @@ module _ (zs : List ℕ) (m : Model) (bytes : AllBytes zs) (none : NoneGiven zs 
   front-known = go (decLt (length zs) 2)
     where
       by : 2 ≤ length zs → (k : Mark) → MarkIs k zs → (size : ℕ) × (hs : List Happening) × Front zs size hs
-      by l Unknown (a, b, c, d) = absurd (none UnknownMark (l, a, b, c, d))
+      by l Unknown (a, o, b, c, d) = absurd (none UnknownMark (l, a, o, b, c, d))
       by l Declaration k = (_, _, declares (sensor-there k .0) (sensor-there k .1))
       by l Measurement k = (_, _, holds k)
       by l Bus k = (_, _, frames k)
@@ -105,7 +105,7 @@ module _ (zs : List ℕ) (m : Model) (bytes : AllBytes zs) (none : NoneGiven zs 
   asks (declares sensor names) =
       asks-for (Declare sensor) (omega arith)
       (declare-asked (ltb (length zs) (markSize Declaration)) (m .running || not (eqb (byte zs 2) (m .declared)))
-      (ltb (byte zs 2) 16) (in-asked zs m (named-by zs sensor names))
+      (ltb (byte zs 2) 16) (declaring-asked zs m (named-by zs sensor names))
       ∙ ap sensorAsked (named zs sensor names))
   asks (holds k) =
       asks-for (Hold (byte zs 2) (sampleIn zs)) (omega arith)

@@ -1,7 +1,7 @@
--- The four marks: which of them is at the front of a session, and what it makes of the record there.
+-- The marks: which of them is at the front of a session, and what it makes of the record there.
 -- Assumes nothing.
 use Prim.Native.Nat.{ℕ, _≤_}
-use Rattle.demands.specs.Numbers.{FR, IN, SA, TK}
+use Rattle.demands.specs.Numbers.{Declaring, FR, IN, LO, SA, TK}
 use Rattle.device.specs.declared.model.Model.{Model}
 use Rattle.judging.proofs.Asking.{marked}
 use Rattle.judging.specs.Asked.{asked, askedBy, declareAsked, frameAsked, sampleAsked, ticksAsked}
@@ -15,12 +15,13 @@ use lib.Dec.{eqb}
 use lib.ListN.{length}
 use mathlib.Core.Bool.{Bool, cond, false, true}
 use mathlib.Core.List.{List}
+use mathlib.Core.Logic.{inl, inr}
 use mathlib.Core.Path.{refl, _∙_, _≡_}
 
 -- the mark at the front of `rest`, by its letters
 abbrev pub MarkIs : Mark → List ℕ → Type 0
-MarkIs Unknown rest = (IN rest → ⊥) × (SA rest → ⊥) × (FR rest → ⊥) × (TK rest → ⊥)
-MarkIs Declaration rest = IN rest
+MarkIs Unknown rest = (IN rest → ⊥) × (LO rest → ⊥) × (SA rest → ⊥) × (FR rest → ⊥) × (TK rest → ⊥)
+MarkIs Declaration rest = Declaring rest
 MarkIs Measurement rest = SA rest
 MarkIs Bus rest = FR rest
 MarkIs Time rest = TK rest
@@ -28,19 +29,22 @@ MarkIs Time rest = TK rest
 module _ (rest : List ℕ) (l : 2 ≤ length rest) where
   pub mark-is : MarkIs (markOf (word rest 0)) rest
   unfolding markOf
-  mark-is = go (eqb w marks.IN) refl (eqb w marks.SA) refl (eqb w marks.FR) refl (eqb w marks.TK) refl
+  mark-is = go (eqb w marks.IN) refl (eqb w marks.LO) refl (eqb w marks.SA) refl (eqb w marks.FR) refl (eqb w marks.TK) refl
     where
       w : ℕ
       w = word rest 0
 
-      go : (a : Bool) → eqb w marks.IN ≡ a → (b : Bool) → eqb w marks.SA ≡ b → (c : Bool) → eqb w marks.FR ≡ c → (d : Bool) → eqb w marks.TK ≡ d
-          → MarkIs (cond a Declaration (cond b Measurement (cond c Bus (cond d Time Unknown)))) rest
-      go true e b f c g d h = (l, eqb-true w marks.IN e)
-      go false e true f c g d h = (l, eqb-true w marks.SA f)
-      go false e false f true g d h = (l, eqb-true w marks.FR g)
-      go false e false f false g true h = (l, eqb-true w marks.TK h)
-      go false e false f false g false h = (
+      go : (a : Bool) → eqb w marks.IN ≡ a → (o : Bool) → eqb w marks.LO ≡ o → (b : Bool) → eqb w marks.SA ≡ b → (c : Bool) → eqb w marks.FR ≡ c
+          → (d : Bool) → eqb w marks.TK ≡ d
+          → MarkIs (cond a Declaration (cond o Declaration (cond b Measurement (cond c Bus (cond d Time Unknown))))) rest
+      go true e o i b f c g d h = inl (l, eqb-true w marks.IN e)
+      go false e true i b f c g d h = inr (l, eqb-true w marks.LO i)
+      go false e false i true f c g d h = (l, eqb-true w marks.SA f)
+      go false e false i false f true g d h = (l, eqb-true w marks.FR g)
+      go false e false i false f false g true h = (l, eqb-true w marks.TK h)
+      go false e false i false f false g false h = (
         λ p. eqb-false w marks.IN e (p .1),
+        λ p. eqb-false w marks.LO i (p .1),
         λ p. eqb-false w marks.SA f (p .1),
         λ p. eqb-false w marks.FR g (p .1),
         λ p. eqb-false w marks.TK h (p .1),
@@ -48,9 +52,10 @@ module _ (rest : List ℕ) (l : 2 ≤ length rest) where
 
   pub unknown-mark : MarkIs Unknown rest → markOf (word rest 0) ≡ Unknown
   unfolding markOf
-  unknown-mark (a, b, c, d) =
+  unknown-mark (a, o, b, c, d) =
       rw (
         ne-eqb (word rest 0) marks.IN (λ e. a (l, e)),
+        ne-eqb (word rest 0) marks.LO (λ e. o (l, e)),
         ne-eqb (word rest 0) marks.SA (λ e. b (l, e)),
         ne-eqb (word rest 0) marks.FR (λ e. c (l, e)),
         ne-eqb (word rest 0) marks.TK (λ e. d (l, e)),
@@ -58,9 +63,10 @@ module _ (rest : List ℕ) (l : 2 ≤ length rest) where
 
 -- a mark decides which kind is asked for
 module _ (rest : List ℕ) (m : Model) where
-  pub in-asked : IN rest → asked rest m ≡ declareAsked rest m
+  pub declaring-asked : Declaring rest → asked rest m ≡ declareAsked rest m
   unfolding markOf askedBy
-  in-asked (l, e) = marked rest m l ∙ rw e
+  declaring-asked (inl (l, e)) = marked rest m l ∙ rw e
+  declaring-asked (inr (l, e)) = marked rest m l ∙ rw e
 
   pub sa-asked : SA rest → asked rest m ≡ sampleAsked rest m
   unfolding markOf askedBy

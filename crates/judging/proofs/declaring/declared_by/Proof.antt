@@ -9,13 +9,22 @@ use borrow.Author.Tests.{ne-eqb}
 in-declares-requires : tie.Need-in-declares-requires
 in-declares-requires c κs = search needs
 
+lo-declares-requires : tie.Need-lo-declares-requires
+lo-declares-requires c κs = search needs
+
 returns : tie.Need-returns
 unfolding declaredBy
 returns c = rw (c .in-declares .ensures, c .before .match .keys1)
 
 returns-2 : tie.Need-returns-2
 unfolding declaredBy
-returns-2 c = rw (ne-eqb _ _ (c .match .rest .1))
+returns-2 c = rw (c .lo-declares .ensures, c .before .match .keys2)
+
+returns-3 : tie.Need-returns-3
+unfolding declaredBy
+returns-3 c =
+    let r = c .match .rest in
+    rw (ne-eqb _ _ (r .0 .1), ne-eqb _ _ (r .1))
 
 pub declared-by-spec : {M : Type 1} → statement M
-declared-by-spec = tie.close (tie.spec in-declares-requires returns returns-2)
+declared-by-spec = tie.close (tie.spec in-declares-requires lo-declares-requires returns returns-2 returns-3)

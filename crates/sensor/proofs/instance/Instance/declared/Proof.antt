@@ -17,6 +17,12 @@ enum-known-sensor c = search needs
 fresh-requires-2 : tie.Need-fresh-requires-2
 fresh-requires-2 c κs = search needs
 
+enum-known-sensor-2 : tie.Need-enum-known-sensor-2
+enum-known-sensor-2 c = search needs
+
+fresh-requires-3 : tie.Need-fresh-requires-3
+fresh-requires-3 c κs = search needs
+
 returns : tie.Need-returns
 unfolding declared
 returns c = rw (c .fresh .ensures, c .before .enum-told .given .1)
@@ -25,7 +31,20 @@ returns-2 : tie.Need-returns-2
 unfolding declared
 returns-2 c = rw (c .fresh2 .ensures, c .before .before .sensor .given .1)
 
+returns-3 : tie.Need-returns-3
+unfolding declared
+returns-3 c = rw (c .fresh3 .ensures, c .before .before .sensor2 .given .1)
+
 pub declared-spec : {M : Type 1} → statement M
 declared-spec =
     tie.close
-    (tie.spec enum-told fresh-requires enum-known-sensor fresh-requires-2 returns returns-2)
+    (tie.spec
+    enum-told
+    fresh-requires
+    enum-known-sensor
+    fresh-requires-2
+    enum-known-sensor-2
+    fresh-requires-3
+    returns
+    returns-2
+    returns-3)
