@@ -6,10 +6,14 @@
 enum { OCCUPANCY = 3, LIGHT = 4 };
 enum { INSTANCES = 16, SESSION_MAX = 1 << 16 };
 
+/* The turns of profile f: the first ones each declare another sensor that is not modelled, the last ones an instance too many. */
+enum { DAMAGED_TURNS = 54, UNMODELLED_TURNS = 14, FULL_TURNS = 6 };
+
 /* What the generator remembers of an instance, to choose values and tick counts that tell something. It may be wrong: a setting
  * that is refused is remembered all the same. */
 typedef struct {
     uint8_t type, resolution;
+    bool lo; /* declared by LO: its band is on the input value */
     uint8_t hysteresis, hysteresis_min, deadtime, report;
     uint32_t base; /* a value that the band may begin from */
     bool had_valid; /* light: status 1 is refused from now on */
@@ -71,9 +75,11 @@ static void put(generator *g, const uint8_t *bytes, size_t count)
 
 #define PUT(g, ...) put((g), (const uint8_t[]){__VA_ARGS__}, sizeof((const uint8_t[]){__VA_ARGS__}))
 
-static void put_in(generator *g, unsigned number, unsigned type, unsigned resolution)
+/* IN, or LO. */
+static void put_declaration(generator *g, bool lo, unsigned number, unsigned type, unsigned resolution)
 {
-    PUT(g, 'I', 'N', (uint8_t)number, (uint8_t)type, (uint8_t)resolution);
+    const char *mark = lo ? "LO" : "IN";
+    PUT(g, (uint8_t)mark[0], (uint8_t)mark[1], (uint8_t)number, (uint8_t)type, (uint8_t)resolution);
 }
 
 static void put_sa(generator *g, unsigned number, unsigned status, uint32_t value)
@@ -105,7 +111,7 @@ static void put_command(generator *g, unsigned number, unsigned opcode)
 
 /* ---- Instances ---- */
 
-static void declare(generator *g, unsigned type, unsigned resolution)
+static void declare(generator *g, bool lo, unsigned type, unsigned resolution)
 {
     bool light = type == LIGHT;
     uint32_t hundredth = (1u << resolution) / 100;
@@ -113,20 +119,32 @@ static void declare(generator *g, unsigned type, unsigned resolution)
     g->instance[g->declared] = (sketch){
         .type = (uint8_t)type,
         .resolution = (uint8_t)resolution,
+        .lo = lo,
         .hysteresis = 5,
         .hysteresis_min = least,
         .deadtime = light ? 30 : 2,
         .report = light ? 30 : 20,
     };
-    put_in(g, g->declared, type, resolution);
+    put_declaration(g, lo, g->declared, type, resolution);
     g->declared++;
+}
+
+static void declare_occupancy(generator *g)
+{
+    declare(g, false, OCCUPANCY, 2);
+}
+
+/* By either mark. */
+static void declare_light(generator *g, unsigned resolution)
+{
+    declare(g, chance(g, 40), LIGHT, resolution);
 }
 
 static void declare_any(generator *g, unsigned count)
 {
     for (unsigned i = 0; i < count; i++) {
-        if (chance(g, 45)) declare(g, OCCUPANCY, 2);
-        else declare(g, LIGHT, 1 + below(g, 24));
+        if (chance(g, 45)) declare_occupancy(g);
+        else declare_light(g, 1 + below(g, 24));
     }
 }
 
@@ -137,22 +155,47 @@ static unsigned any_instance(generator *g)
 
 /* ---- Samples ---- */
 
+/* The bits that the number of the band has more than the measured value: LO's fills whole bytes. */
+static unsigned filled_bits(const sketch *s)
+{
+    return s->lo ? (24u - s->resolution) % 8 : 0;
+}
+
+/* The number of the band that is taken on a value. The bits of a value again and again are those of the fraction value /
+ * (2^resolution - 1). */
+static int64_t band_number(const sketch *s, uint32_t value)
+{
+    return (int64_t)value * (1 << (s->resolution + filled_bits(s))) / ((1 << s->resolution) - 1);
+}
+
+/* A value at the end of a band that begins at the base and goes down (-1) or up (1), or beside it; it may be out of range. */
+static int64_t edge_value(generator *g, const sketch *s, int way)
+{
+    int64_t from = band_number(s, s->base), share = from * s->hysteresis / 100;
+    int64_t end = from + way * (share > s->hysteresis_min ? share : s->hysteresis_min);
+    return end / (1 << filled_bits(s)) + below(g, 3) - 1;
+}
+
+static uint32_t in_range(const sketch *s, int64_t value)
+{
+    int64_t most = light_most(s);
+    return (uint32_t)(value < 0 ? 0 : value > most ? most : value);
+}
+
 /* A value at an end of the range, or about an edge of a band that begins at the base. */
 static uint32_t light_value(generator *g, sketch *s)
 {
     int64_t most = light_most(s);
-    int64_t share = (int64_t)s->base * s->hysteresis / 100;
-    int64_t width = share > s->hysteresis_min ? share : s->hysteresis_min;
     int64_t value = s->base;
     switch (below(g, 8)) {
     case 0: value = (int64_t)ONE_OF(g, 0, 0, 1, 99, 100); break;
     case 1: value = most - below(g, 2); break;
     case 2: value = (int64_t)(next_random(g) % (uint64_t)(most + 1)); break;
-    case 3: case 4: value += width + below(g, 3) - 1; break;
-    case 5: case 6: value -= width + below(g, 3) - 1; break;
+    case 3: case 4: value = edge_value(g, s, 1); break;
+    case 5: case 6: value = edge_value(g, s, -1); break;
     default: value += below(g, 3) - 1; break;
     }
-    value = value < 0 ? 0 : value > most ? most : value;
+    value = in_range(s, value);
     if (chance(g, 60)) s->base = (uint32_t)value;
     return (uint32_t)value;
 }
@@ -343,15 +386,40 @@ static void step_noise(generator *g)
 
 /* ---- Bad records ---- */
 
-/* A type or a resolution that is not modelled, or a number that is not the next. */
-static void bad_in(generator *g)
+/* The session ends in the record that begins at `start`: then no work is left. */
+static void cut(generator *g, size_t start)
 {
+    g->len = start + 1 + below(g, (unsigned)(g->len - start));
+    g->work_left = 0;
+}
+
+/* A type or a resolution that is not modelled, or a number that is not the next. */
+static void bad_declaration(generator *g)
+{
+    bool lo = chance(g, 50);
     unsigned number = chance(g, 70) ? g->declared : below(g, 18);
     switch (below(g, 3)) {
-    case 0: put_in(g, number, OCCUPANCY, ONE_OF(g, 0, 1, 2, 3, 24)); break;
-    case 1: put_in(g, number, LIGHT, ONE_OF(g, 0, 1, 24, 25, 255)); break;
-    default: put_in(g, number, ONE_OF(g, 0, 1, 2, 5, 255), ONE_OF(g, 2, 8)); break;
+    case 0: put_declaration(g, lo, number, OCCUPANCY, ONE_OF(g, 0, 1, 2, 3, 24)); break;
+    case 1: put_declaration(g, lo, number, LIGHT, ONE_OF(g, 0, 1, 24, 25, 255)); break;
+    default: put_declaration(g, lo, number, ONE_OF(g, 0, 1, 2, 5, 255), ONE_OF(g, 2, 8)); break;
     }
+}
+
+/* A type or a resolution that is not modelled, by either mark, with the next number. Of type 3 with resolution 2 there is IN. */
+static void unmodelled(generator *g, unsigned turn)
+{
+    static const uint8_t sensors[UNMODELLED_TURNS / 2][2] = {{2, 2}, {3, 1}, {3, 2}, {3, 8}, {4, 0}, {4, 25}, {5, 24}};
+    put_declaration(g, turn % 2 == 1, g->declared, sensors[turn / 2][0], sensors[turn / 2][1]);
+}
+
+/* What would be taken, but that a record of another kind comes before it; sometimes the session ends in it. */
+static void late_declaration(generator *g)
+{
+    put_fr(g, 0x01, 0x00, any_query(g));
+    size_t start = g->len;
+    bool lo = chance(g, 50);
+    put_declaration(g, lo, g->declared, LIGHT, 1 + below(g, 24));
+    if (chance(g, 40)) cut(g, start);
 }
 
 /* A sample with one thing wrong, or for an instance that may not be there. */
@@ -370,27 +438,24 @@ static void bad_sa(generator *g)
 
 static void bad_mark(generator *g)
 {
-    static const char marks[] = "INSAFRTKEVANXX";
+    static const char marks[] = "INLOSAFRTKEVANXX";
     unsigned at = below(g, sizeof marks - 2);
     PUT(g, (uint8_t)marks[at], (uint8_t)marks[at + 1]);
     for (unsigned i = below(g, 4); i > 0; i--) PUT(g, (uint8_t)below(g, 3));
     if (chance(g, 50)) g->work_left = 0;
 }
 
-/* A record that is refused more often than not, and sometimes the session ends in it: then no work is left. */
+/* A record that is refused more often than not, and sometimes the session ends in it. */
 static void step_bad(generator *g)
 {
     size_t start = g->len;
     switch (below(g, 10)) {
-    case 0: case 1: bad_in(g); break;
+    case 0: case 1: bad_declaration(g); break;
     case 2: bad_mark(g); break;
     case 3: PUT(g, 'T', 'K', 0, (uint8_t)below(g, 2)); break;
     default: bad_sa(g); break;
     }
-    if (chance(g, 20)) {
-        g->len = start + 1 + below(g, (unsigned)(g->len - start));
-        g->work_left = 0;
-    }
+    if (chance(g, 20)) cut(g, start);
 }
 
 /* ---- Profiles ---- */
@@ -429,7 +494,7 @@ static void mixed_traffic(generator *g)
 static void band_edges(generator *g)
 {
     unsigned count = 1 + below(g, 2);
-    for (unsigned i = 0; i < count; i++) declare(g, LIGHT, 1 + below(g, 24));
+    for (unsigned i = 0; i < count; i++) declare_light(g, 1 + below(g, 24));
     begin_unready(g);
     for (unsigned i = 0; i < count; i++) {
         set_times(g, i, (uint8_t)ONE_OF(g, 0, 0, 1), (uint8_t)ONE_OF(g, 0, 1, 30));
@@ -444,7 +509,7 @@ static void band_edges(generator *g)
 static void occupancy_filters(generator *g)
 {
     unsigned count = 1 + below(g, 3);
-    for (unsigned i = 0; i < count; i++) declare(g, OCCUPANCY, 2);
+    for (unsigned i = 0; i < count; i++) declare_occupancy(g);
     for (unsigned i = 0; i < count; i++) {
         set_to(g, i, 0x68, (uint8_t)below(g, 32));
         if (chance(g, 70)) set_times(g, i, (uint8_t)ONE_OF(g, 0, 1, 2, 5), (uint8_t)ONE_OF(g, 0, 1, 1));
@@ -495,13 +560,14 @@ static void damage(generator *g)
     }
 }
 
-static void damaged(generator *g)
+static void damaged(generator *g, unsigned turn)
 {
     g->work_left = 400;
     if (chance(g, 5)) for (unsigned i = below(g, 40); i > 0; i--) PUT(g, (uint8_t)below(g, 256));
-    if (chance(g, 10)) declare_any(g, INSTANCES - below(g, 2));
-    else declare_any(g, below(g, 4));
-    if (chance(g, 25)) bad_in(g);
+    bool full = turn >= DAMAGED_TURNS - FULL_TURNS;
+    declare_any(g, full ? INSTANCES : below(g, 4));
+    if (full || turn < UNMODELLED_TURNS) unmodelled(g, turn % UNMODELLED_TURNS);
+    else if (chance(g, 15)) late_declaration(g);
     MIX(g, below(g, 6), step_move, step_query, step_bad, step_noise, step_set);
     MIX(g, 1 + below(g, 4), step_bad);
     if (chance(g, 30)) damage(g);
@@ -549,8 +615,8 @@ typedef struct {
 static void declare_pair(generator *g, pair p)
 {
     for (unsigned i = 0; i < 2; i++) {
-        if (i == p.light) declare(g, LIGHT, 10 + below(g, 15));
-        else declare(g, OCCUPANCY, 2);
+        if (i == p.light) declare_light(g, 10 + below(g, 15));
+        else declare_occupancy(g);
     }
 }
 
@@ -717,8 +783,8 @@ static void declare_thirds(generator *g)
 {
     unsigned count = 3 + below(g, 3), occupancy = below(g, 3);
     for (unsigned i = 0; i < count; i++) {
-        if (i % 3 == occupancy) declare(g, OCCUPANCY, 2);
-        else declare(g, LIGHT, 1 + below(g, 24));
+        if (i % 3 == occupancy) declare_occupancy(g);
+        else declare_light(g, 1 + below(g, 24));
     }
 }
 
@@ -814,6 +880,100 @@ static void unready(generator *g, test_case *c)
     end_last_part(g, number);
 }
 
+/* ---- Profile m: IN and LO of one resolution, given the same samples ---- */
+
+/* Twins are instances n and n ^ 1: one by IN and one by LO, with the same settings. */
+static void declare_twins(generator *g, unsigned resolution)
+{
+    bool lo = chance(g, 50);
+    declare(g, lo, LIGHT, resolution);
+    declare(g, !lo, LIGHT, resolution);
+}
+
+static void set_twins(generator *g, unsigned number, unsigned opcode, uint8_t dtr0)
+{
+    set_to(g, number, opcode, dtr0);
+    set_to(g, number ^ 1, opcode, dtr0);
+}
+
+/* A sample for both, and the ticks that take it. */
+static void give_twins(generator *g, unsigned number, unsigned status, uint32_t value, unsigned ticks)
+{
+    put_sa(g, number, status, value);
+    put_sa(g, number ^ 1, status, value);
+    put_tk(g, ticks);
+}
+
+static void query_twins(generator *g, unsigned number)
+{
+    for (unsigned i = 0; i < 2; i++) {
+        query_value(g, number ^ i);
+        put_command(g, number ^ i, 0x3C);
+    }
+}
+
+/* hysteresisMin: none, least, most, and about one step or two of the measured value as LO's number has them. */
+static uint8_t telling_min(generator *g, unsigned number)
+{
+    const sketch *lo = &g->instance[g->instance[number].lo ? number : number ^ 1];
+    unsigned step = 1u << filled_bits(lo);
+    return (uint8_t)ONE_OF(g, 0, 1, 255, step, step, step + 1, 2 * step - 1);
+}
+
+/* A value for a band to begin from: any, one of the largest, one of which every hysteresis is whole steps, or one so small that
+ * hysteresisMin is more. */
+static uint32_t telling_base(generator *g, const sketch *s)
+{
+    uint32_t most = light_most(s), any = (uint32_t)(next_random(g) % (most + 1u));
+    switch (below(g, 5)) {
+    case 0: return in_range(s, (int64_t)most - below(g, 3));
+    case 1: return any / 100 * 100;
+    case 2: return in_range(s, below(g, 2 + 2u * s->hysteresis_min));
+    default: return any;
+    }
+}
+
+/* A band from the same value for both, down from it or, after the largest value, up; most often there is a failure before. Gives
+ * which way it goes. With hysteresis 0 it is reports that begin it. */
+static int begin_bands(generator *g, unsigned number)
+{
+    sketch *s = &g->instance[number];
+    unsigned ticks = s->hysteresis > 0 ? 1 : 21;
+    bool up = chance(g, 40);
+    s->base = g->instance[number ^ 1].base = telling_base(g, s);
+    if (chance(g, 70)) give_twins(g, number, 2, 0, 1);
+    if (up) give_twins(g, number, 0, light_most(s), ticks);
+    give_twins(g, number, 0, s->base, ticks);
+    return up ? 1 : -1;
+}
+
+/* Values about the other end of the band, as either twin has it; before them sometimes a report inside the band. */
+static void probe_bands(generator *g, unsigned number, int way)
+{
+    const sketch *s = &g->instance[number];
+    if (chance(g, 30)) give_twins(g, number, 0, in_range(s, ((int64_t)s->base + edge_value(g, s, way)) / 2), 21);
+    for (unsigned i = 1 + below(g, 3); i > 0; i--) {
+        uint32_t value = in_range(s, edge_value(g, &g->instance[number ^ below(g, 2)], way));
+        if (s->hysteresis == 0) set_twins(g, number, 0x31, (uint8_t)ONE_OF(g, 1, 25));
+        give_twins(g, number, 0, value, 1);
+    }
+}
+
+/* Three pairs of twins, of one byte, two and three: in eight turns all resolutions. */
+static void twins(generator *g, test_case *c, unsigned turn)
+{
+    for (unsigned i = 0; i < 3; i++) declare_twins(g, 1 + turn + 8 * i);
+    for (unsigned i = 0; i < g->declared; i++) set_times(g, i, 0, 1);
+    for (unsigned i = 0; i < 24; i++) {
+        unsigned number = i % 3 * 2 + below(g, 2);
+        if (i == 12 && chance(g, 30)) c->before_len = g->len;
+        if (chance(g, 40)) set_twins(g, number, 0x33, telling_min(g, number));
+        if (chance(g, 60)) set_twins(g, number, 0x31, (uint8_t)ONE_OF(g, 0, 1, 1, 5, 24, 25, 25));
+        probe_bands(g, number, begin_bands(g, number));
+        if (chance(g, 25)) query_twins(g, number);
+    }
+}
+
 /* ---- The choice by the seed ---- */
 
 /* The place of a seed among a hundred in a row, which have a hundred different ones. */
@@ -826,19 +986,19 @@ static unsigned place_of(uint64_t seed)
 static char profile_of(uint64_t seed)
 {
     static const struct { unsigned up_to; char profile; } shares[] = {
-        {14, 'a'}, {20, 'l'}, {32, 'b'}, {47, 'c'}, {56, 'd'}, {60, 'k'}, {63, 'e'}, {75, 'f'}, {86, 'g'}, {90, 'h'}, {92, 'i'},
-        {100, 'j'},
+        {12, 'a'}, {18, 'l'}, {28, 'b'}, {38, 'c'}, {46, 'm'}, {54, 'd'}, {58, 'k'}, {60, 'e'}, {78, 'f'}, {87, 'g'}, {90, 'h'},
+        {92, 'i'}, {100, 'j'},
     };
     unsigned i = 0;
     while (place_of(seed) >= shares[i].up_to) i++;
     return shares[i].profile;
 }
 
-/* The eight places of profile j have sixteen third bytes each, the hundreds of seeds in turn one half of all and the other: within
- * any 200 seeds in a row all 256 go to a light and to an occupancy instance. */
-static unsigned first_third_byte(uint64_t seed)
+/* A seed's turn, from 0. The places of a profile, so many in a row, have a turn each, and others in each of so many hundreds of
+ * seeds: within that many hundreds in a row all turns come. */
+static unsigned turn_of(uint64_t seed, unsigned places, unsigned hundreds)
 {
-    return 16 * (place_of(seed) % 8 + (unsigned)(seed / 100 % 2) * 8);
+    return place_of(seed) % places + places * (unsigned)(seed / 100 % hundreds);
 }
 
 test_case generate(uint64_t seed, char profile)
@@ -851,13 +1011,14 @@ test_case generate(uint64_t seed, char profile)
     case 'c': occupancy_filters(&g); break;
     case 'd': timer_ends(&g); break;
     case 'e': g.work_left = 10000; long_quiet(&g); break;
-    case 'f': damaged(&g); break;
+    case 'f': damaged(&g, turn_of(seed, DAMAGED_TURNS / 3, 3)); break;
     case 'g': c.log_len = below(&g, 401); short_output(&g); break;
     case 'h': last_ticks(&g, &c); break;
     case 'i': far_ticks(&g, &c); break;
     case 'k': deadtimes_set(&g); break;
     case 'l': unready(&g, &c); break;
-    default: third_bytes(&g, first_third_byte(seed)); break;
+    case 'm': twins(&g, &c, turn_of(seed, 8, 1)); break;
+    default: third_bytes(&g, 16 * turn_of(seed, 8, 2)); break;
     }
     c.session = buffer;
     c.session_len = g.len;

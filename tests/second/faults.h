@@ -5,7 +5,7 @@
 
 #define SECOND_FAULT_LIST(X) \
     /* Findings from earlier models */ \
-    X(BAND_ON_PADDED, "hysteresis taken on the padded inputValue") \
+    X(BAND_ON_PADDED, "IN: hysteresis taken on the padded inputValue") \
     X(BAND_CENTRED, "band centred on v") \
     X(BAND_MOVED_INSIDE, "band moved by a report inside it") \
     X(DEAD_TIME_LATE, "dead time ends one tick late") \
@@ -64,6 +64,50 @@
     X(THIRTEEN_HELD, "sample refused with 13 held all the same") \
     X(THIRTEEN_FORGETS, "sample refused with 13 forgets that there was a valid one") \
     X(THIRTEEN_DISCARDS_BAND, "sample refused with 13 discards the band") \
+    /* Sensors built to the 2017 text (02, M-107): the mark */ \
+    X(LO_UNKNOWN, "mark LO unknown") \
+    X(LO_IS_IN, "LO taken for IN: as type 3 too, and by the measured value") \
+    X(LO_CUT_IS_ONE, "cut LO: 1, not 2") \
+    X(LO_THREE_BEFORE_TWO, "cut LO after a record of another kind: 3 before 2") \
+    X(LO_FOUR_BEFORE_THREE, "late or skipped LO that is not modelled: 4 before 3") \
+    X(LATE_LO_TAKEN, "LO after a record of another kind taken") \
+    X(LO_AFTER_IN_LATE, "LO after IN refused with 3") \
+    X(IN_AFTER_LO_LATE, "IN after LO refused with 3") \
+    X(LO_NUMBERED_APART, "LO numbered apart from IN") \
+    X(LO_16_IS_THREE, "LO number 16 refused with 3 after 16 others") \
+    X(LO_OCCUPANCY_TAKEN, "LO of type 3 taken, as IN's") \
+    X(LO_TYPE_3_IS_LIGHT, "LO of type 3 taken for light") \
+    X(LO_TYPE_IGNORED, "LO of any type taken for light") \
+    X(LO_RESOLUTION_0_TAKEN, "LO with resolution 0 taken, as 1") \
+    X(LO_RESOLUTION_25_TAKEN, "LO with resolution 25 taken, as 24") \
+    X(LO_FOR_ALL, "one LO makes all light instances go by the padded number") \
+    X(FIRST_MARK_FOR_ALL, "the first mark decides on which number all bands are") \
+    X(LAST_MARK_FOR_ALL, "the last mark decides on which number all bands are") \
+    X(CALL_FORGETS_LO, "reading that goes on from an earlier one's state forgets which mark declared an instance") \
+    /* Sensors built to the 2017 text (02, M-107): the band */ \
+    X(LO_ON_MEASURED, "LO: band, width and comparison on the measured value") \
+    X(LO_COMPARED_ON_MEASURED, "LO: the measured value compared with a band on the padded number") \
+    X(LO_WIDTH_ON_MEASURED, "LO: width of the measured value, band and comparison on the padded number") \
+    X(LO_ENDS_ON_MEASURED, "LO: ends of the band set from the measured value, width and comparison on the padded number") \
+    X(LO_ZERO_PADDED, "LO: band on the measured value padded with zeros") \
+    X(LO_ONE_PADDED, "LO: band on the measured value padded with ones") \
+    X(LO_THREE_BYTES, "LO: band on the measured value padded to three bytes at every resolution") \
+    X(LO_TOP_BYTE, "LO: band on the top byte of inputValue") \
+    X(LO_LOW_TWO_BYTES, "LO: band on the low two bytes of inputValue") \
+    X(LO_ON_INFORMATION, "LO: band on the ten bits of the event's information") \
+    X(LO_MIN_IN_MEASURED_STEPS, "LO: hysteresisMin counted in steps of the measured value") \
+    X(LO_UNTIL_FAILED, "LO: band on the measured value after a failure") \
+    /* Sensors built to the 2017 text (02, M-107): "all else is common" */ \
+    X(LO_INFORMATION_OF_PADDED, "LO: information from inputValue, its bits repeated") \
+    X(LO_MIN_BY_PADDED_WIDTH, "LO: hysteresisMin at start by the bits of inputValue") \
+    X(LO_SAMPLE_OF_PADDED_WIDTH, "LO: values up to the bits of inputValue taken") \
+    X(LO_ANSWERS_PADDED_WIDTH, "LO: 81 answers the bits of inputValue") \
+    X(LO_ANSWERS_OTHER_TYPE, "LO: 80 answers 3") \
+    X(LO_MASK_MISSING, "LO: MASK missing, the last value shown") \
+    X(LO_NOT_READY_TAKEN, "LO: status 1 after a valid sample taken, as before M-110") \
+    X(LO_DEAD_TIME_0_RUNS_ON, "LO: deadtime set to 0 does not end the running dead time, as before M-103") \
+    X(LO_NO_BAND_IS_0, "LO: no band is a band from 0 to 0") \
+    X(LO_BAND_KEPT_FAILED, "LO: status 2 keeps the band") \
     /* Widths */ \
     X(ZERO_PADDED, "inputValue padded with zeros") \
     X(NOT_WIDENED, "inputValue is the measured value, not widened") \

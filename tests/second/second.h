@@ -23,6 +23,7 @@ typedef struct {
 
 typedef struct {
     uint8_t type, resolution;
+    bool old_rule; /* light declared by LO: its band is on inputValue (02, M-107) */
 
     uint8_t report, deadtime, filter, priority, hysteresis, hysteresis_min; /* settings */
     bool enabled;
@@ -49,7 +50,7 @@ typedef struct {
     uint32_t tick;
     uint8_t dtr0;
     uint8_t declared;
-    bool others_read;  /* a record of another kind than IN was taken */
+    bool others_read;  /* a record of another kind than IN and LO was taken */
     bool table_in_use; /* the hour table (02, M-106): number 10 is given; not so in a fresh model */
     second_instance instance[SECOND_INSTANCES];
 } second_model;

@@ -1,4 +1,5 @@
-/* Checks the second implementation against the values that document 01 prints, and that reading in pieces is reading the whole. */
+/* Checks the second implementation against the values that document 01 prints and against a session worked out by hand, and that
+ * reading in pieces is reading the whole. */
 #include "../lib/comparison.h"
 #include "../lib/generator.h"
 #include "../lib/pieces.h"
@@ -22,13 +23,59 @@ static const uint8_t FULL_LOG[] = {
     0x41, 0x4E, 0x00, 0x00, 0x00, 0x29, 0x00, 0x5E,
 };
 
+/* M-107: IN and LO of resolution 9, given the same samples, with hysteresisMin 5. LO's number has 16 bits, the nine and their first
+ * seven again: 100 (001100100) is 100 x 128 + 25 = 12825, 95 (001011111) is 95 x 128 + 23 = 12183, 110 (001101110) is
+ * 110 x 128 + 27 = 14107.
+ *   tick 1   hysteresis 5, no band: both send. IN: width 5, band 95 to 100. LO: width 641, band 12184 to 12825
+ *   tick 31  hysteresis 25, dead time is over. IN: 95 is in its band. LO: 12183 is below: it sends, width 3045, band 12183 to 15228
+ *   tick 32  IN: 110 is above 100: it sends. LO: 14107 is in its band, at tick 61 too, where its dead time is over
+ * The information is the nine bits and the first again: 200, 190, 220. */
+static const uint8_t TWO_RULES_SESSION[] = {
+    'I', 'N', 0, 4, 9,
+    'L', 'O', 1, 4, 9,
+    'S', 'A', 0, 0, 0, 0, 100,
+    'S', 'A', 1, 0, 0, 0, 100,
+    'T', 'K', 0, 1,
+    'F', 'R', 0xC1, 0x30, 25,
+    'F', 'R', 0x01, 0, 0x31,
+    'F', 'R', 0x01, 1, 0x31,
+    'S', 'A', 0, 0, 0, 0, 95,
+    'S', 'A', 1, 0, 0, 0, 95,
+    'T', 'K', 0, 30,
+    'S', 'A', 0, 0, 0, 0, 110,
+    'S', 'A', 1, 0, 0, 0, 110,
+    'T', 'K', 0, 30,
+    'F', 'R', 0x01, 1, 0x3C,
+    'F', 'R', 0x01, 1, 0x8C,
+    'F', 'R', 0x01, 1, 0x8D,
+};
+static const uint8_t TWO_RULES_LOG[] = {
+    'E', 'V', 0, 0, 0, 1, 0, 4, 0, 200,
+    'E', 'V', 0, 0, 0, 1, 1, 4, 0, 200,
+    'E', 'V', 0, 0, 0, 31, 1, 4, 0, 190,
+    'E', 'V', 0, 0, 0, 32, 0, 4, 0, 220,
+    'A', 'N', 0, 0, 0, 61, 1, 5,
+    'A', 'N', 0, 0, 0, 61, 1, 0x37,
+    'A', 'N', 0, 0, 0, 61, 1, 0x1B,
+};
+
+static bool session_gives(const uint8_t *session, size_t session_len, const uint8_t *expected, size_t expected_len)
+{
+    uint8_t log[128];
+    memset(log, 0xA5, sizeof log);
+    second_reading r = second_session(session, session_len, log, sizeof log);
+    return r.number == 0 && r.offset == session_len && r.written == expected_len && r.ticks == 0 &&
+           memcmp(log, expected, expected_len) == 0 && log[expected_len] == 0xA5;
+}
+
 static bool full_session_agrees(void)
 {
-    uint8_t log[64];
-    memset(log, 0xA5, sizeof log);
-    second_reading r = second_session(FULL_SESSION, sizeof FULL_SESSION, log, sizeof log);
-    return r.number == 0 && r.offset == sizeof FULL_SESSION && r.written == sizeof FULL_LOG && r.ticks == 0 &&
-           memcmp(log, FULL_LOG, sizeof FULL_LOG) == 0 && log[sizeof FULL_LOG] == 0xA5;
+    return session_gives(FULL_SESSION, sizeof FULL_SESSION, FULL_LOG, sizeof FULL_LOG);
+}
+
+static bool two_rules_agree(void)
+{
+    return session_gives(TWO_RULES_SESSION, sizeof TWO_RULES_SESSION, TWO_RULES_LOG, sizeof TWO_RULES_LOG);
 }
 
 /* "Marked table": Width and Information, as a light instance shows them. `marked` is inputValue and then the information. */
@@ -86,6 +133,7 @@ int main(void)
 {
     bool good = report("document 01, full session", full_session_agrees());
     good = report("document 01, marked widths and informations", marked_table_agrees()) && good;
+    good = report("IN and LO side by side, worked out by hand", two_rules_agree()) && good;
     good = report("1000 sessions in pieces", pieces_agree(1000)) && good;
     return good ? 0 : 1;
 }
