@@ -3,4 +3,5 @@ mod Rest
 pub mod Laws
 pub mod Freed
 pub mod Measured
+pub mod Texts
 pub mod Unique

@@ -5,4 +5,5 @@ pub mod Demand2
 pub mod Demand3
 pub mod Hours
 pub mod Streams
+pub mod Texts
 pub mod Unique

@@ -4,3 +4,4 @@ pub mod Alone
 pub mod Window
 pub mod Numbers
 pub mod Streams
+pub mod Texts

@@ -7,4 +7,5 @@ pub mod Quiet
 pub mod Fresh
 pub mod Measured
 pub mod Reporting
+pub mod Texts
 pub mod Unique

@@ -7,3 +7,4 @@ pub mod Fresh
 pub mod Tick
 pub mod Marked
 pub mod Quiet
+pub mod Text

@@ -33,7 +33,10 @@ unready = record { status = 1; value = 0 }
 abbrev pub lightStart : Basis → (resolution : ℕ) → Light
 lightStart basis resolution = record { basis = basis; resolution = resolution; shown = unready; band = Nowhere }
 
--- the sensor with what it shows, or its band, changed: only these and the one above list every part
+-- the sensor with one part changed: only these and the one above list every part
+abbrev pub withBasis : Basis → Light → Light
+withBasis basis l = record { basis = basis; resolution = l .resolution; shown = l .shown; band = l .band }
+
 abbrev pub withShown : Sample → Light → Light
 withShown sample l = record { basis = l .basis; resolution = l .resolution; shown = sample; band = l .band }
 
