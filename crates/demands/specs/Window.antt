@@ -88,7 +88,7 @@ pub record Window (m₀ : Model) (calls : List Call) (i : ℕ) : Type 0 where
   pub reports : Reports (instanceAt (deviceAfter at) i)
   pub undisturbed : Undisturbed i (deviceAfter at) (at .during)
 
--- the window after an IN that declared instance i
+-- the window after a declaration of instance i
 pub record Start (m₀ : Model) (calls : List Call) (i : ℕ) (sensor : Sensor) : Type 0 where
   pub at : Cut m₀ calls (declare sensor)
   pub next : i ≡ deviceBefore at .declared

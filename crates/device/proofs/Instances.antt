@@ -31,7 +31,7 @@ pub held-at : (m : Model) (i : ℕ) (sample : Sample) → i < length (m .instanc
 unfolding heldModel instanceAt
 held-at m i sample listed = getD-set-same (m .instances) i _ sensors.blank listed
 
--- ---- IN: instances are declared, and never less
+-- ---- a declaration: instances are declared, and never less
 pub declared-more : (m : Model) (sensor : Sensor) → m .declared ≤ declaredModel m sensor .declared
 declared-more m sensor = by (decLe 16 (m .declared))
   where

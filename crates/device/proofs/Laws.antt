@@ -53,7 +53,7 @@ pub fresh-length : length (fresh .instances) ≡ 16
 unfolding fresh
 fresh-length = refl
 
--- ---- IN
+-- ---- a declaration
 -- the model with the next instance
 abbrev enlarged : Model → Sensor → Model
 enlarged m sensor = withDeclared (m .declared + 1) (withInstance (m .declared) (sensors.declared sensor) m)

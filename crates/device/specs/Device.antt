@@ -33,7 +33,7 @@ withDeclared n m = record { tick = m .tick; last = m .last; dtr0 = m .dtr0; decl
 abbrev pub withInstances : List Instance → Model → Model
 withInstances xs m = record { tick = m .tick; last = m .last; dtr0 = m .dtr0; declared = m .declared; running = m .running; instances = xs }
 
--- a record that is no IN was taken, and declarations are over
+-- a record that is no declaration was taken, and declarations are over
 abbrev pub underWay : Model → Model
 underWay m = record { tick = m .tick; last = m .last; dtr0 = m .dtr0; declared = m .declared; running = true; instances = m .instances }
 

@@ -4,7 +4,7 @@ use sensor::Sensor;
 ghost use Rattle.device.specs.Device.{declaredModel, fresh, known};
 ghost use mathlib.Core.Path.{_≡_};
 
-// running: a record that is no IN was taken, and declarations are over. declared: how many instances are.
+// running: a record that is no declaration was taken, and declarations are over. declared: how many instances are.
 // last: the last tick that may be reached (M-106).
 pub struct Model {
     pub tick: u32,

@@ -1,4 +1,4 @@
--- Document 01, "Session and log records" and "Numbers given when a record is not taken", with M-106 and M-110: the record at the front of what is left of a
+-- Document 01, "Session and log records" and "Numbers given when a record is not taken", with M-106, M-107 and M-110: the record at the front of what is left of a
 -- session, and every refusal but 9. Order: mark present (2), mark known (1), record whole (2), then the record's own numbers rising.
 -- Assumes nothing.
 use Prim.Native.Nat.{ℕ, _+_, _-_, _<_, _^_, _≤_}

@@ -1,4 +1,4 @@
--- Document 01, "Numbers given when a record is not taken", with M-106 and M-110: the number of each refusal. 0 is given when all records are taken.
+-- Document 01, "Numbers given when a record is not taken", with M-106, M-107 and M-110: the number of each refusal. 0 is given when all records are taken.
 -- Assumes nothing.
 use Prim.Native.Nat.{ℕ}
 use Rattle.judging.specs.declared.asked.Refusal.the-variants.{BadSample, BeyondTable, Cut, Full, LateOrSkipped, NoSuchSensor, NoTicks, NotReadyAgain, TimeOver, Undeclared, UnknownMark}
@@ -10,9 +10,9 @@ unfoldable pub numberOf : Refusal → ℕ
 numberOf UnknownMark = 1
 -- fewer bytes remain than the mark, or the record, needs
 numberOf Cut = 2
--- IN after a record of another kind, or its number isn't the next, from 0
+-- IN or LO after a record of another kind, or its number isn't the next, from 0
 numberOf LateOrSkipped = 3
--- IN number 16 or above; a type and resolution that are not modelled
+-- IN or LO number 16 or above; a type and resolution that it does not declare
 numberOf NoSuchSensor = 4
 -- SA for an undeclared instance
 numberOf Undeclared = 5

@@ -3,13 +3,12 @@
 use Prim.Native.Nat.{ℕ}
 use Rattle.sensor.specs.Instance.{untouched}
 use Rattle.sensor.specs.Kind.{rules}
-use Rattle.sensor.specs.Light.{lightSettings, lightStart, unready}
+use Rattle.sensor.specs.Light.{lightSettings, lightStart, unready, withShown}
 use Rattle.sensor.specs.Occupancy.{occupancySettings, occupancyStart, still}
 use Rattle.sensor.specs.Settings.{noSettings}
 use Rattle.sensor.specs.declared.instance.Instance.{Instance}
 use Rattle.sensor.specs.declared.kind.Kind.the-variants.{Light, Occupancy}
 use Rattle.sensor.specs.declared.kind.Kind.{Kind}
-use Rattle.sensor.specs.declared.light.Band.the-variants.{Nowhere}
 use Rattle.sensor.specs.declared.light.Basis.the-variants.{Measured, Padded}
 use Rattle.sensor.specs.declared.light.Basis.{Basis}
 use Rattle.sensor.specs.declared.sensors.Sensor.the-variants as sensors
@@ -39,7 +38,7 @@ declared (sensors.LightOf2017 resolution) = lightFresh Padded resolution
 abbrev pub blank : Instance
 blank =
     untouched
-    (Light (record { basis = Measured; resolution = 0; shown = record { status = 0; value = 0 }; band = Nowhere }))
+    (Light (withShown (record { status = 0; value = 0 }) (lightStart Measured 0)))
     noSettings
     (record { dead = 0; report = Stopped })
     (record { status = 0; value = 0 })
