@@ -1,9 +1,13 @@
 // What the sheets say of a session beside the table of its log, as a row of decimal numbers on descriptor 3: how many instances are declared, the tick that
-// was reached, by which number a record was refused and where, whether a read failed, and of each instance its type and its resolution (M-106).
+// was reached, by which number a record was refused and where, whether a read failed, and of each instance its type, its resolution and whether it is light built
+// to the text of 2017 (M-106, M-107).
 use crate::reading::Came;
 use crate::reading::Ran;
 use crate::saying::refused_by;
 use device::Model;
+use sensor::Basis;
+use sensor::Kind;
+use sensor::Light;
 
 const FACTS: i32 = 3;
 
@@ -36,7 +40,24 @@ fn types(model: Model) {
         let kind = x.kind;
         number(kind.sensor_type() as u64);
         number(kind.resolution() as u64);
+        number(of_2017(kind));
         i += 1;
+    }
+}
+
+// 1 of light built to the text of 2017, else 0.
+fn of_2017(kind: Kind) -> u64 {
+    match kind {
+        Kind::Light(light) => padded(light),
+        Kind::Occupancy(_) => 0,
+    }
+}
+
+fn padded(light: Light) -> u64 {
+    let basis = light.basis;
+    match basis {
+        Basis::Measured => 0,
+        Basis::Padded => 1,
     }
 }
 
