@@ -181,11 +181,40 @@ morning() {
     FR 01 02 8C  # the value at the desk
 }
 
+# ---- the two texts side by side: instances 0 (IN) and 1 (LO) have 10 bits, 2 (IN) and 3 (LO) have 8, and each pair is given the same samples. The band of IN is on the
+# measured value v, that of LO on the input value: of 10 bits in two bytes v x 64 + v / 16, of 8 bits v itself. Width: 5 percent, or hysteresisMin, 10 or 2, if
+# that is more; all rounded down. No report comes before tick 600
+texts() {
+    IN 0 $light 10
+    LO 1 $light 10
+    IN 2 $light 8
+    LO 3 $light 8
+
+    # tick 1: nobody has a band, and all send. 0: width 10, for 5 is less: 90 to 100. 1: 6406, width 320: 6086 to 6406. 2 and 3: width 5: 95 to 100
+    for i in 0 1 2 3; do SA $i $valid 100; done
+    TK 40
+
+    # tick 41: 0 is inside. 1: 6021, below, alone of the two: width 301: 6021 to 6322. 2 and 3: below, both: width 4: 94 to 98
+    for i in 0 1 2 3; do SA $i $valid 94; done
+    TK 40
+
+    # tick 81, above: 0 has width 50: 950 to 1000. 1: 64062, width 3203: 60859 to 64062
+    # tick 121, below: 0 has width 45: 900 to 945. 1: 57656, width 2882: 57656 to 60538
+    # tick 161: 0 is at the end of its band, inside. 1: 60539, above by one, alone: width 3026: 57513 to 60539
+    # tick 201: 0 is below by one, alone: width 44: 899 to 943. 1: 57592, inside
+    for value in 1000 900 945 899; do
+        SA 0 $valid $value
+        SA 1 $valid $value
+        TK 40
+    done
+}
+
 # ---- one session for each refusal
 refused_1() { IN 0 $light 8 && printf XX; }                      # no such mark
 refused_2() { IN 0 $light 8 && printf 'TK\000'; }                # a record cut short
 refused_3() { IN 0 $light 8 && TK 1 && IN 1 $occupancy 2; }      # too late to declare
 refused_4() { IN 0 $light 25; }                                  # light has 1 to 24 bits
+refused_4_lo() { LO 0 $occupancy 2; }                            # LO declares light alone
 refused_5() { IN 0 $light 8 && SA 1 $valid 100; }                # only instance 0 is there
 refused_6() { IN 0 $light 8 && SA 0 $valid 255; }                # 8 bits: 0 to 254
 refused_7() { IN 0 $light 8 && SA 0 $valid 100 && TK 1 && TK 0; }  # no ticks; what came before is logged
@@ -225,7 +254,7 @@ beyond() {
 # A log whose ticks fall: the clock of a device that was set back.
 falls() { head -c 20 "$here/full.log" && head -c 10 "$here/full.log"; }
 
-for session in full hour morning beyond refused_1 refused_2 refused_3 refused_4 refused_5 refused_6 refused_7 refused_8 refused_13; do
+for session in full hour morning beyond texts refused_1 refused_2 refused_3 refused_4 refused_4_lo refused_5 refused_6 refused_7 refused_8 refused_13; do
     $session >"$session.session"
 done
 compare_model >compare.model.session

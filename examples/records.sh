@@ -3,6 +3,7 @@
 #   { IN 0 4 8 && SA 0 0 100 && TK 72000 && FR 01 00 8C; } >my.session
 #
 #   IN INSTANCE TYPE RESOLUTION    declares an instance: type 3, occupancy, with resolution 2; type 4, light, with 1 to 24
+#   LO INSTANCE TYPE RESOLUTION    declares a light instance built to the text of 2017: type 4, with 1 to 24
 #   SA INSTANCE STATUS VALUE       what it measures from now on: status 0 valid; 1 not ready and 2 failed, with value 0
 #   FR BYTE1 BYTE2 BYTE3           a frame, its bytes in hexadecimal, as in the standards
 #   TK TICKS                       so many ticks of 50 ms, up to 4294967295: a record for each 65535 of them, and one for the rest
@@ -37,10 +38,15 @@ record_fits() {
 
 record_bytes() { for record_byte in "$@"; do printf "\\$(printf %03o "$record_byte")"; done; }
 
-IN() {
-    record_fits "IN $*" $# 255 "${1-}" 255 "${2-}" 255 "${3-}" || return
-    printf IN && record_bytes "$1" "$2" "$3"
+# record_declares MARK NUMBER...: IN and LO are laid out alike
+record_declares() {
+    record_fits "$*" $(($# - 1)) 255 "${2-}" 255 "${3-}" 255 "${4-}" || return
+    printf %s "$1" && record_bytes "$2" "$3" "$4"
 }
+
+IN() { record_declares IN "$@"; }
+
+LO() { record_declares LO "$@"; }
 
 SA() {
     record_fits "SA $*" $# 255 "${1-}" 255 "${2-}" 16777215 "${3-}" || return

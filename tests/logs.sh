@@ -186,6 +186,12 @@ for name in full.session full.log; do
 done
 cp examples/hour.session "$room/input"
 shows 0 '167 records, 908 bytes shown'
+# the two marks that declare; and a session that begins with LO, whose fields are not judged
+cp examples/texts.session "$room/input"
+shows 0 '26 records, 156 bytes shown'
+grep -qx 'byte        5  tick       0   0:00:00.00  LO  instance 1  type 4  resolution 10' "$room/out" || fail "show, LO: $(head -n 2 "$room/out")"
+cp examples/refused_4_lo.session "$room/input"
+shows 0 '1 record, 5 bytes shown'
 unknown='1, mark unknown' cut='2, fewer bytes remain than the mark, or the record, needs'
 cp examples/refused_1.session "$room/input"
 shows 1 "1 record, 5 bytes shown; record refused at byte 5: $unknown"

@@ -199,6 +199,21 @@ cmp examples/morning.hour_2.log "$room/out"
 session 0 '19 records, 100 bytes read; 216000 ticks; 266000 bytes logged' '4 sheets of 3 hours'
 light='light, resolution 8'
 printed "$room/sheets" 4 3 -v of='a session' -v reached=216000 -v types="$light;$light;$light;$light"
+# light of either text; all sixteen places, the last by LO
+cp examples/texts.session "$room/input"
+session 0 '26 records, 156 bytes read; 240 ticks; 130 bytes logged' '4 sheets of 1 hour'
+printed "$room/sheets" 4 1 -v of='a session' -v reached=240 \
+    -v types='light, resolution 10;light of the 2017 text, resolution 10;light, resolution 8;light of the 2017 text, resolution 8'
+types=
+for i in 0 3 6 9 12; do
+    IN $i 3 2
+    IN $((i + 1)) 4 $((i + 9))
+    LO $((i + 2)) 4 $((i + 10))
+    types="${types}occupancy;light, resolution $((i + 9));light of the 2017 text, resolution $((i + 10));"
+done >"$room/input"
+LO 15 4 1 >>"$room/input"
+session 0 '16 records, 80 bytes read; 0 ticks; 0 bytes logged' '16 sheets of 1 hour'
+printed "$room/sheets" 16 1 -v of='a session' -v reached=0 -v types="${types}light of the 2017 text, resolution 1"
 # nothing declared; no tick; the last tick of the table, and one more
 : >"$room/input"
 call --sheets "$room/sheets"
