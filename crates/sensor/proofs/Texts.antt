@@ -46,7 +46,6 @@ whole-padded v r w h = go (eqb r 8) refl (eqb r 16) refl (eqb r 24) refl w
     go false e false f false g i = absurd (false≢true i)
 
 compared-as : (l : Light) → Shows (kinds.Light l) → compared (lightAsIN l) ≡ compared l
-unfolding compared
 compared-as l h = go (l .basis) (wholeBytes (l .resolution)) refl
   where
     go : (b : Basis) (w : Bool) → wholeBytes (l .resolution) ≡ w

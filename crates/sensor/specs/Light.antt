@@ -52,7 +52,7 @@ abbrev pub comparedBy : Basis → (value resolution : ℕ) → ℕ
 comparedBy Measured value resolution = value
 comparedBy Padded value resolution = widths.inputValue value resolution
 
-unfoldable pub compared : Light → ℕ
+abbrev pub compared : Light → ℕ
 compared l = comparedBy (l .basis) (l .shown .value) (l .resolution)
 
 -- ---- the band

@@ -12,7 +12,7 @@ use Rattle.record.specs.Log.{bytesOf, encoded}
 use Rattle.record.specs.Marks.{markOf}
 use Rattle.sensor.specs.Fresh as sensors
 use Rattle.sensor.specs.Kind.{allows, cause, information, input, repeat, resolution, rules, sent, taken, units}
-use Rattle.sensor.specs.Light.{compared, lightAllows, lightCause, lightInformation, lightInput, lightRepeat, lightSent, lightTaken, minimum, moved, outside, width}
+use Rattle.sensor.specs.Light.{lightAllows, lightCause, lightInformation, lightInput, lightRepeat, lightSent, lightTaken, minimum, moved, outside, width}
 use Rattle.sensor.specs.Tick.{closed, goesBack, holding, kindAfter, sentAfter, ticked}
 use Rattle.session.specs.Session.{fits, forC, reading, session, step, ticking}
 use Rattle.session.specs.declared.reading.Reading.{Reading}
@@ -53,6 +53,6 @@ unfolding
     answering.acted answering.queried answering.actedBy answering.answered answering.byteAt answering.latched lightMeaning meant meantIn markOf
     after decided deadTime due fallen fallenReport reportTime started startedReport bytesOf encoded
     sensors.declared sensors.fresh sensors.lightFresh allows cause information input repeat resolution rules sent taken units
-    compared lightAllows lightCause lightInformation lightInput lightRepeat lightSent lightTaken minimum moved outside width
+    lightAllows lightCause lightInformation lightInput lightRepeat lightSent lightTaken minimum moved outside width
     closed goesBack holding kindAfter sentAfter ticked widened
 computing = tt

@@ -2,7 +2,6 @@
 -- Assumes nothing.
 use Rattle.sensor.proofs.light.Light.compared.Statement.{statement}
 use Rattle.sensor.proofs.light.Light.compared.Tie as tie
-use Rattle.sensor.specs.Light.{compared}
 use borrow.Author.Needs.{needs}
 
 enum-told : tie.Need-enum-told
@@ -15,11 +14,9 @@ input-value-requires : tie.Need-input-value-requires
 input-value-requires c κs = search needs
 
 returns : tie.Need-returns
-unfolding compared
 returns c = rw (c .enum-told .given .1)
 
 returns-2 : tie.Need-returns-2
-unfolding compared
 returns-2 c = rw (c .before .enum-told2 .given .1) (c .input-value .ensures)
 
 pub compared-spec : {M : Type 1} → statement M
