@@ -1,6 +1,6 @@
 # Builds and runs C with the kit's own compiler and C library; nothing else need be installed. To be sourced, from the root of the
 # repository:
-#   c_library CRATE                     proves a library crate, where that is not done, and writes target/staticlib/libCRATE.a
+#   c_library CRATE                     proves a library crate and writes target/staticlib/libCRATE.a, where that is not done
 #   c_object OBJECT SOURCE [FLAG...]    compiles one source for x86-64, the library's machine
 #   c_program PROGRAM OBJECT...         links objects and archives
 #   c_run PROGRAM [ARGUMENT...]         runs a program; on a machine other than x86-64 under the kit's emulator
@@ -18,8 +18,20 @@ fi
 built=target/c
 mkdir -p "$built"
 
+# What an archive is made of, and the archive: of the kit and the sources, and of its own bytes.
+c_state() {
+    { rt version && sha256sum "target/staticlib/lib$1.a" && find crates.txt crates -type f -exec sha256sum {} + | LC_ALL=C sort -k 2; } | sha256sum
+}
+
+# To prove a crate for its archive takes as long as to check it: one that an earlier test made of the same is linked again.
 c_library() {
+    c_made=target/staticlib.$1.made
+    if [ -f "target/staticlib/lib$1.a" ] && [ "$(cat "$c_made" 2>/dev/null)" = "$(c_state "$1")" ]; then
+        return
+    fi
+    rm -f "$c_made"
     rt staticlib "$1" >"target/staticlib.$1.log" 2>&1 || { cat "target/staticlib.$1.log" >&2; return 1; }
+    c_state "$1" >"$c_made"
 }
 
 c_object() {
