@@ -9,7 +9,7 @@
  *
  * This page is the manual: 1 the archives, 2 a session, 3 frames, 4 when an event goes out, 5 a log, 6 an example, 7 the numbers, 8 the call
  * for a session, 9 the call for two logs, 10 the hour table. It says in short what is proved; the definitions decide (docs/TRUST.md, 1), and above them
- * document 01 with M-102, M-103, M-106, M-107 and M-110.
+ * document 01 with M-100, M-102, M-103, M-106, M-107 and M-110.
  *
  *
  * 1. THE ARCHIVES
@@ -32,19 +32,22 @@
  *   mark                                    bytes
  *   IN  instance  type  resolution            5    declares an instance
  *   LO  instance  type  resolution            5    declares a light instance built to the text of 2017 (M-107)
+ *   IM  instance  type  resolution            5    declares a movement-based occupancy instance (M-100)
  *   SA  instance  status  value (3)           7    what it measures from now on
  *   FR  byte1  byte2  byte3                   5    a frame on the bus
  *   TK  count (2)                             4    1 to 65,535 ticks of 50 ms pass
  *
- * IN  and LO stand before all other records, in any order. Instances are numbered 0, 1, 2, .. in the order of their declarations, whichever of the
- *     two declares them; there are 16 at most, or none.
- *       type 3, occupancy (presence-based): resolution 2; by IN alone
- *       type 4, light: resolution 1 to 24, the bits of a measured value
- *     What LO declares is light in all that follows, and differs in one thing: the number that its band is taken on (part 4).
+ * IN, LO and IM stand before all other records, in any order. Instances are numbered 0, 1, 2, .. in the order of their declarations, whichever of the
+ *     three declares them; there are 16 at most, or none.
+ *       type 3, occupancy: resolution 2; presence-based by IN, movement-based by IM
+ *       type 4, light: resolution 1 to 24, the bits of a measured value; by IN or LO
+ *     What LO declares is light in all that follows, and differs in one thing: the number that its band is taken on (part 4). What IM declares is
+ *     occupancy in all that follows but where it says movement-based: it is told of movement alone, and makes its value of that and of a hold timer.
  *
  * SA  replaces the sample that the instance holds, and does no more: it shows from the next tick on, and until then queries answer as before.
  *       status              value, light               value, occupancy
- *       0  valid            0 to 2^resolution - 2      0 to 3: bit 0 movement, bit 1 occupied
+ *       0  valid            0 to 2^resolution - 2      0 to 3: bit 0 movement, bit 1 occupied;
+ *                                                      movement-based 0 or 1: bit 0 alone
  *       1  not ready        0; only before the         not allowed
  *                           first SA with status 0
  *       2  failure          0                          0
@@ -65,34 +68,41 @@
  *   set from DTR0    light   occupancy   unit, or what is taken               at the start: light   occupancy
  *   report             30       22       20 ticks (1 s); 0: no reports                         30         20
  *   deadtime           32       23       1 tick; 0: none                                       30          2
+ *   hold                -       21       200 ticks (10 s); 0: 20 ticks; 255: no change          -         90; movement-based alone
  *   hysteresis         31        -       percent; above 25: no change                           5          -
  *   hysteresisMin      33        -       steps of v (part 4)                           see below          -
  *   filter             68       68       the bits that the type has; others are dropped         1          3
  *   priority           61       61       2 to 5, else no change                                 4          4
  *   enable             62       62       DTR0 does not matter                             enabled    enabled
  *   disable            63       63       DTR0 does not matter
+ *   catch movement      -       20       no setting (part 4); movement-based alone
+ *   cancel hold         -       24       no setting (part 4); movement-based alone
  * hysteresisMin starts as 2^resolution / 100, rounded down, and 255 at most. Filter bits of light: bit 0, its events. Of occupancy: bit 0
  * Occupied, 1 Vacant, 2 Repeat (its reports: off at the start), 3 Movement, 4 No movement.
  *   A new report or deadtime serves from the next start of its timer, but for these: report 0 stops the report timer at once, and a report
- * that was due no longer is; a report above 0 starts it at once where it was stopped; deadtime 0 ends a running dead time at once.
+ * that was due no longer is; a report above 0 starts it at once where it was stopped; deadtime 0 ends a running dead time at once. A new hold serves
+ * from the next start of the hold timer.
  *
  *   query            light   occupancy   answer, one byte; where there is none nothing is logged
  *   type               80       80       04, or 03
  *   resolution         81       81
  *   error              82       82       01 in a failure, else none
  *   status             83       83       bit 0 failure, bit 1 enabled
- *   priority           84       84       this and the next five: as they were set, or at the start
+ *   priority           84       84       this and the next six: as they were set, or at the start
  *   filter             90       90
  *   deadtime           3D       2C
  *   report             3E       2E
+ *   hold                -       2D       movement-based alone
  *   hysteresis         3F        -
  *   hysteresisMin      3C        -
  *   enabled            86       86       FF, or none
+ *   catching            -       2F       FF, or none; movement-based alone
  *   input value        8C       8C       its first byte; the rest is kept for 8D of that instance, up to its next 8C
  *   its next byte      8D       8D       none where nothing is left
  * The input value has the least bytes that hold the resolution. Its bits, from the top, are those of the measured value from the top, again and
  * again: bit j from the top is bit (j mod resolution) from the top, j from 0. Light that is not ready or failed has all bits 1. Occupancy has
- * 00, 55, AA, FF for 0 to 3, and in a failure the value of the last tick that was valid.
+ * 00, 55, AA, FF for 0 to 3, and in a failure the value of the last tick that was valid. Movement-based it has 00 vacant, FF occupied with movement, AA
+ * occupied without.
  *
  *
  * 4. WHEN AN EVENT GOES OUT
@@ -111,6 +121,13 @@
  * No movement where bit 0 did. Such a trigger waits, if its filter bit is set and the instance enabled when it comes. One event clears all that
  * wait, opposite ones too; so do disabling and a failure, and a new filter drops those it does not allow. An event goes out where one waits, or
  * where a report is due and filter bit 2 is set.
+ *   Movement-based occupancy makes its value at each valid tick, and all else is as for presence. With movement it is occupied with movement. At the first
+ * tick without, it is occupied without, and the hold timer starts; hold ticks later, if every valid tick up to there, that one too, is without movement,
+ * it is vacant. The hold timer falls in a failure too; where it has run out there, the instance is vacant at the first valid tick behind the failure,
+ * unless that has movement. Disabled or not, value and hold timer go on. Cancel hold lets a running hold timer run out at the next tick, and does nothing
+ * where none runs. Catch movement is for a filter without bit 3, Movement: from then on the next Movement waits and is sent as if the bit were set.
+ * Catching ends with the first event that has Movement among what waited; what drops a trigger that waits (a new filter without bit 3, disabling, a
+ * failure) does not end it. Where bit 3 is set, catch movement ends catching.
  *
  *
  * 5. A LOG
@@ -124,7 +141,8 @@
  * `tick` is the tick number: of an event the tick that sent it, of an answer the last one before its frame, 0 before the first.
  * `priority` is 5 where a due report is all that asked for the event, and else the instance's.
  * `information` is of the value at that tick. Of light it is ten bits by the rule of the input value: at resolution 10 and above the top ten
- * bits, below that the bits again and again. Of occupancy: bit 0 movement, bit 1 occupied, bit 2 set where a due report is all that asked.
+ * bits, below that the bits again and again. Of occupancy: bit 0 movement, bit 1 occupied, bit 2 set where a due report is all that asked, bit 3 set
+ * where it is movement-based.
  *
  *
  * 6. AN EXAMPLE (tests/controller.c runs it)
@@ -156,10 +174,10 @@ extern "C" {
  * 9. */
 enum {
     POTMEANDER_TAKEN = 0,           /* all records were taken; an empty session too */
-    POTMEANDER_UNKNOWN_MARK = 1,    /* the mark is none of IN, LO, SA, FR, TK; in a log (parts 9 and 10), none of EV, AN */
+    POTMEANDER_UNKNOWN_MARK = 1,    /* the mark is none of IN, LO, IM, SA, FR, TK; in a log (parts 9 and 10), none of EV, AN */
     POTMEANDER_CUT = 2,             /* fewer bytes remain than the mark, or the record, needs */
-    POTMEANDER_LATE_OR_SKIPPED = 3, /* IN or LO after a record of another kind, or its number is not the next, from 0 */
-    POTMEANDER_NO_SUCH_SENSOR = 4,  /* IN or LO: number 16, after 16 others, or a type and resolution that it does not declare */
+    POTMEANDER_LATE_OR_SKIPPED = 3, /* IN, LO or IM after a record of another kind, or its number is not the next, from 0 */
+    POTMEANDER_NO_SUCH_SENSOR = 4,  /* IN, LO or IM: number 16, after 16 others, or a type and resolution that it does not declare */
     POTMEANDER_UNDECLARED = 5,      /* SA for an instance that was not declared */
     POTMEANDER_BAD_SAMPLE = 6,      /* SA: a status or a value that the type does not allow */
     POTMEANDER_NO_TICKS = 7,        /* TK with count 0 */
