@@ -2,7 +2,7 @@
 -- Assumes nothing.
 use Prim.Native.Nat.{_<_}
 use Rattle.sensor.specs.Kind.{repeat, rules, units}
-use Rattle.sensor.specs.declared.kind.Kind.the-variants.{Light, Occupancy}
+use Rattle.sensor.specs.declared.kind.Kind.the-variants.{Light, Movement, Occupancy}
 use Rattle.sensor.specs.declared.kind.Kind.{Kind}
 use Rattle.sensor.specs.declared.settings.Settings.{Settings}
 use Rattle.timers.specs.Pace.{Reporting}
@@ -17,6 +17,7 @@ unit-positive : (k : Kind) → 0 < units k .report
 unfolding units
 unit-positive (Light l) = omega arith
 unit-positive (Occupancy o) = omega arith
+unit-positive (Movement m) = omega arith
 
 module _ (k : Kind) (s : Settings) where
   -- where its filter lets the report out, it is what demand 3 asks of a decision

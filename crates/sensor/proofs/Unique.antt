@@ -20,8 +20,16 @@ use Rattle.sensor.proofs.kind.Kind.allowing.Kinds as Kind-allowing-kind
 use Rattle.sensor.proofs.kind.Kind.allowing.Reads as Kind-allowing
 use Rattle.sensor.proofs.kind.Kind.allows.Kinds as Kind-allows-kinds
 use Rattle.sensor.proofs.kind.Kind.allows.Reads as Kind-allows
+use Rattle.sensor.proofs.kind.Kind.cancelled.Kinds as Kind-cancelled-kinds
+use Rattle.sensor.proofs.kind.Kind.cancelled.Reads as Kind-cancelled
+use Rattle.sensor.proofs.kind.Kind.catching.Kinds as Kind-catching-kinds
+use Rattle.sensor.proofs.kind.Kind.catching.Reads as Kind-catching
+use Rattle.sensor.proofs.kind.Kind.caught.Kinds as Kind-caught-kinds
+use Rattle.sensor.proofs.kind.Kind.caught.Reads as Kind-caught
 use Rattle.sensor.proofs.kind.Kind.cause.Kinds as Kind-cause-kinds
 use Rattle.sensor.proofs.kind.Kind.cause.Reads as Kind-cause
+use Rattle.sensor.proofs.kind.Kind.falls_for.Kinds as Kind-falls-for-kinds
+use Rattle.sensor.proofs.kind.Kind.falls_for.Reads as Kind-falls-for
 use Rattle.sensor.proofs.kind.Kind.information.Kinds as Kind-information-kinds
 use Rattle.sensor.proofs.kind.Kind.information.Reads as Kind-information
 use Rattle.sensor.proofs.kind.Kind.input.Kinds as Kind-input-kinds
@@ -32,6 +40,8 @@ use Rattle.sensor.proofs.kind.Kind.repeat.Kinds as Kind-repeat-kinds
 use Rattle.sensor.proofs.kind.Kind.repeat.Reads as Kind-repeat
 use Rattle.sensor.proofs.kind.Kind.resolution.Kinds as Kind-resolution-kinds
 use Rattle.sensor.proofs.kind.Kind.resolution.Reads as Kind-resolution
+use Rattle.sensor.proofs.kind.Kind.rested.Kinds as Kind-rested-kinds
+use Rattle.sensor.proofs.kind.Kind.rested.Reads as Kind-rested
 use Rattle.sensor.proofs.kind.Kind.rules.Kinds as Kind-rules-kinds
 use Rattle.sensor.proofs.kind.Kind.rules.Reads as Kind-rules
 use Rattle.sensor.proofs.kind.Kind.sensor_type.Kinds as Kind-sensor-type-kinds
@@ -68,6 +78,32 @@ use Rattle.sensor.proofs.light.Light.settled.Kinds as Light-settled-kin
 use Rattle.sensor.proofs.light.Light.settled.Reads as Light-settled
 use Rattle.sensor.proofs.light.Light.taken.Kinds as Light-taken-kinds
 use Rattle.sensor.proofs.light.Light.taken.Reads as Light-taken
+use Rattle.sensor.proofs.movement.Movement.allowing.Kinds as Movement-allowing-kinds
+use Rattle.sensor.proofs.movement.Movement.allowing.Reads as Movement-allowing
+use Rattle.sensor.proofs.movement.Movement.allows.Kinds as Movement-allows-kinds
+use Rattle.sensor.proofs.movement.Movement.allows.Reads as Movement-allows
+use Rattle.sensor.proofs.movement.Movement.cancelled.Kinds as Movement-cancelled-kinds
+use Rattle.sensor.proofs.movement.Movement.cancelled.Reads as Movement-cancelled
+use Rattle.sensor.proofs.movement.Movement.caught.Kinds as Movement-caught-kinds
+use Rattle.sensor.proofs.movement.Movement.caught.Reads as Movement-caught
+use Rattle.sensor.proofs.movement.Movement.cause.Kinds as Movement-cause-kinds
+use Rattle.sensor.proofs.movement.Movement.cause.Reads as Movement-cause
+use Rattle.sensor.proofs.movement.Movement.falls_for.Kinds as Movement-falls-for-kinds
+use Rattle.sensor.proofs.movement.Movement.falls_for.Reads as Movement-falls-for
+use Rattle.sensor.proofs.movement.Movement.fresh.Kinds as Movement-fresh-kinds
+use Rattle.sensor.proofs.movement.Movement.fresh.Reads as Movement-fresh
+use Rattle.sensor.proofs.movement.Movement.information.Kinds as Movement-information-kinds
+use Rattle.sensor.proofs.movement.Movement.information.Reads as Movement-information
+use Rattle.sensor.proofs.movement.Movement.input.Kinds as Movement-input-kinds
+use Rattle.sensor.proofs.movement.Movement.input.Reads as Movement-input
+use Rattle.sensor.proofs.movement.Movement.rested.Kinds as Movement-rested-kinds
+use Rattle.sensor.proofs.movement.Movement.rested.Reads as Movement-rested
+use Rattle.sensor.proofs.movement.Movement.sent.Kinds as Movement-sent-kinds
+use Rattle.sensor.proofs.movement.Movement.sent.Reads as Movement-sent
+use Rattle.sensor.proofs.movement.Movement.settled.Kinds as Movement-settled-kinds
+use Rattle.sensor.proofs.movement.Movement.settled.Reads as Movement-settled
+use Rattle.sensor.proofs.movement.Movement.taken.Kinds as Movement-taken-kinds
+use Rattle.sensor.proofs.movement.Movement.taken.Reads as Movement-taken
 use Rattle.sensor.proofs.occupancy.Occupancy.allowing.Kinds as Occupancy-allowing-kinds
 use Rattle.sensor.proofs.occupancy.Occupancy.allowing.Reads as Occupancy-allowing
 use Rattle.sensor.proofs.occupancy.Occupancy.allows.Kinds as Occupancy-allows-kinds
@@ -150,8 +186,23 @@ Kind-allows-unique κs a x y s t p q = p ∙ sym q
 pub Kind-allowing-unique : Unique 0 Kind-allowing-kinds.ps Kind-allowing-kinds.r Kind-allowing.Post
 Kind-allowing-unique κs a x y s t p q = p ∙ sym q
 
+pub Kind-caught-unique : Unique 0 Kind-caught-kinds.ps Kind-caught-kinds.r Kind-caught.Post
+Kind-caught-unique κs a x y s t p q = p ∙ sym q
+
+pub Kind-cancelled-unique : Unique 0 Kind-cancelled-kinds.ps Kind-cancelled-kinds.r Kind-cancelled.Post
+Kind-cancelled-unique κs a x y s t p q = p ∙ sym q
+
+pub Kind-catching-unique : Unique 0 Kind-catching-kinds.ps Kind-catching-kinds.r Kind-catching.Post
+Kind-catching-unique κs a x y s t p q = p ∙ sym q
+
 pub Kind-settled-unique : Unique 0 Kind-settled-kinds.ps Kind-settled-kinds.r Kind-settled.Post
 Kind-settled-unique κs a x y s t p q = p ∙ sym q
+
+pub Kind-falls-for-unique : Unique 0 Kind-falls-for-kinds.ps Kind-falls-for-kinds.r Kind-falls-for.Post
+Kind-falls-for-unique κs a x y s t p q = p ∙ sym q
+
+pub Kind-rested-unique : Unique 0 Kind-rested-kinds.ps Kind-rested-kinds.r Kind-rested.Post
+Kind-rested-unique κs a x y s t p q = p ∙ sym q
 
 pub Light-fresh-unique : Unique 0 Light-fresh-kinds.ps Light-fresh-kinds.r Light-fresh.Post
 Light-fresh-unique κs a x y s t p q = p ∙ sym q
@@ -218,3 +269,42 @@ Occupancy-allowing-unique κs a x y s t p q = p ∙ sym q
 
 pub Occupancy-settled-unique : Unique 0 Occupancy-settled-kinds.ps Occupancy-settled-kinds.r Occupancy-settled.Post
 Occupancy-settled-unique κs a x y s t p q = p ∙ sym q
+
+pub Movement-fresh-unique : Unique 0 Movement-fresh-kinds.ps Movement-fresh-kinds.r Movement-fresh.Post
+Movement-fresh-unique κs a x y s t p q = p ∙ sym q
+
+pub Movement-allows-unique : Unique 0 Movement-allows-kinds.ps Movement-allows-kinds.r Movement-allows.Post
+Movement-allows-unique κs a x y s t p q = p ∙ sym q
+
+pub Movement-taken-unique : Unique 0 Movement-taken-kinds.ps Movement-taken-kinds.r Movement-taken.Post
+Movement-taken-unique κs a x y s t p q = p ∙ sym q
+
+pub Movement-cause-unique : Unique 0 Movement-cause-kinds.ps Movement-cause-kinds.r Movement-cause.Post
+Movement-cause-unique κs a x y s t p q = p ∙ sym q
+
+pub Movement-sent-unique : Unique 0 Movement-sent-kinds.ps Movement-sent-kinds.r Movement-sent.Post
+Movement-sent-unique κs a x y s t p q = p ∙ sym q
+
+pub Movement-information-unique : Unique 0 Movement-information-kinds.ps Movement-information-kinds.r Movement-information.Post
+Movement-information-unique κs a x y s t p q = p ∙ sym q
+
+pub Movement-input-unique : Unique 0 Movement-input-kinds.ps Movement-input-kinds.r Movement-input.Post
+Movement-input-unique κs a x y s t p q = p ∙ sym q
+
+pub Movement-allowing-unique : Unique 0 Movement-allowing-kinds.ps Movement-allowing-kinds.r Movement-allowing.Post
+Movement-allowing-unique κs a x y s t p q = p ∙ sym q
+
+pub Movement-caught-unique : Unique 0 Movement-caught-kinds.ps Movement-caught-kinds.r Movement-caught.Post
+Movement-caught-unique κs a x y s t p q = p ∙ sym q
+
+pub Movement-cancelled-unique : Unique 0 Movement-cancelled-kinds.ps Movement-cancelled-kinds.r Movement-cancelled.Post
+Movement-cancelled-unique κs a x y s t p q = p ∙ sym q
+
+pub Movement-settled-unique : Unique 0 Movement-settled-kinds.ps Movement-settled-kinds.r Movement-settled.Post
+Movement-settled-unique κs a x y s t p q = p ∙ sym q
+
+pub Movement-falls-for-unique : Unique 0 Movement-falls-for-kinds.ps Movement-falls-for-kinds.r Movement-falls-for.Post
+Movement-falls-for-unique κs a x y s t p q = p ∙ sym q
+
+pub Movement-rested-unique : Unique 0 Movement-rested-kinds.ps Movement-rested-kinds.r Movement-rested.Post
+Movement-rested-unique κs a x y s t p q = p ∙ sym q

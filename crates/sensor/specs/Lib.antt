@@ -1,6 +1,7 @@
 pub mod Settings
 pub mod Light
 pub mod Occupancy
+pub mod Movement
 pub mod Kind
 pub mod Instance
 pub mod Fresh

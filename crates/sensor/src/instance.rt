@@ -2,6 +2,7 @@
 use crate::kind::Kind;
 use crate::light::Basis;
 use crate::light::Light;
+use crate::movement::Movement;
 use crate::occupancy::Occupancy;
 use crate::sensors::Sensor;
 use crate::settings::Sample;
@@ -9,6 +10,7 @@ use crate::settings::Settings;
 use timers::Decision;
 use timers::Report;
 use timers::Timers;
+ghost use Prim.Native.Nat.{min};
 ghost use Rattle.sensor.specs.Fresh.{declared, fresh};
 ghost use Rattle.sensor.specs.Quiet.{quietFor, rested, steady};
 ghost use Rattle.sensor.specs.Tick.{closed, goesBack, holding, kindAfter, sentAfter, ticked};
@@ -70,6 +72,7 @@ impl Instance {
             Sensor::Occupancy => Occupancy::fresh(),
             Sensor::Light { resolution } => Light::fresh(Basis::Measured, resolution),
             Sensor::LightOf2017 { resolution } => Light::fresh(Basis::Padded, resolution),
+            Sensor::Movement => Movement::fresh(),
         }
     }
 
@@ -135,7 +138,10 @@ impl Instance {
             let held = self.held;
             let rules = kind.rules(settings);
             let cause = kind.cause(settings);
-            Decision::silent_for(rules, held.status == 0, self.timers, cause)
+            least(
+                kind.falls_for(held),
+                Decision::silent_for(rules, held.status == 0, self.timers, cause),
+            )
         } else {
             0
         }
@@ -145,9 +151,15 @@ impl Instance {
     pub fn rested(self, n: u32) -> Instance
         ensures { λ r. ⌜ r ≡ rested self n ⌝ }
     {
+        let last = self.kind;
         let running = self.timers;
+        let kind = last.rested(n);
         let timers = running.rested(n);
-        Instance { timers, ..self }
+        Instance {
+            kind,
+            timers,
+            ..self
+        }
     }
 
     // The held sample has been taken, and `failed` is right.
@@ -185,6 +197,12 @@ fn sent_after(decision: Decision, kind: Kind, settings: Settings) -> Sent
             information: kind.information(true),
         },
     }
+}
+
+fn least(a: u32, b: u32) -> u32
+    ensures { λ r. ⌜ r ≡ min a b ⌝ }
+{
+    if a < b { a } else { b }
 }
 
 fn same(a: bool, b: bool) -> bool

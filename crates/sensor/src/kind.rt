@@ -1,17 +1,19 @@
 // The types of sensor. All else knows a type by these functions and its opcodes alone: a further type is a variant, a file and an arm in each.
 use crate::light::Light;
+use crate::movement::Movement;
 use crate::occupancy::Occupancy;
 use crate::settings::Sample;
 use crate::settings::Settings;
 use timers::Rules;
 use timers::Units;
-ghost use Rattle.sensor.specs.Kind.{allowing, allows, cause, information, input, kept, repeat, resolution, rules, sensorType, sent, taken, units};
-ghost use Rattle.sensor.specs.Quiet.{settled};
+ghost use Rattle.sensor.specs.Kind.{allowing, allows, cancelled, catching, caught, cause, information, input, kept, repeat, resolution, rules, sensorType, sent, taken, units};
+ghost use Rattle.sensor.specs.Quiet.{fallsFor, restedKind, settled};
 ghost use mathlib.Core.Path.{_≡_};
 
 pub enum Kind {
     Light(Light),
     Occupancy(Occupancy),
+    Movement(Movement),
 }
 
 impl Kind {
@@ -49,6 +51,7 @@ impl Kind {
         match self {
             Kind::Light(_) => Light::UNITS,
             Kind::Occupancy(_) => Occupancy::UNITS,
+            Kind::Movement(_) => Occupancy::UNITS,
         }
     }
 
@@ -59,6 +62,7 @@ impl Kind {
         match self {
             Kind::Light(x) => Kind::Light(x.taken(held)),
             Kind::Occupancy(x) => Kind::Occupancy(x.taken(settings, held)),
+            Kind::Movement(x) => Kind::Movement(x.taken(settings, held)),
         }
     }
 
@@ -69,6 +73,7 @@ impl Kind {
         match self {
             Kind::Light(x) => x.cause(settings),
             Kind::Occupancy(x) => x.cause(),
+            Kind::Movement(x) => x.cause(),
         }
     }
 
@@ -79,6 +84,7 @@ impl Kind {
         match self {
             Kind::Light(_) => Light::repeat(settings),
             Kind::Occupancy(_) => Occupancy::repeat(settings),
+            Kind::Movement(_) => Occupancy::repeat(settings),
         }
     }
 
@@ -89,6 +95,7 @@ impl Kind {
         match self {
             Kind::Light(x) => Kind::Light(x.sent(settings)),
             Kind::Occupancy(x) => Kind::Occupancy(x.sent()),
+            Kind::Movement(x) => Kind::Movement(x.sent()),
         }
     }
 
@@ -99,6 +106,7 @@ impl Kind {
         match self {
             Kind::Light(x) => x.information(),
             Kind::Occupancy(x) => x.information(repeats),
+            Kind::Movement(x) => x.information(repeats),
         }
     }
 
@@ -122,6 +130,7 @@ impl Kind {
         match self {
             Kind::Light(_) => Light::TYPE,
             Kind::Occupancy(_) => Occupancy::TYPE,
+            Kind::Movement(_) => Occupancy::TYPE,
         }
     }
 
@@ -131,6 +140,7 @@ impl Kind {
         match self {
             Kind::Light(x) => x.resolution,
             Kind::Occupancy(_) => Occupancy::RESOLUTION,
+            Kind::Movement(_) => Occupancy::RESOLUTION,
         }
     }
 
@@ -141,6 +151,7 @@ impl Kind {
         match self {
             Kind::Light(_) => Light::KEPT,
             Kind::Occupancy(_) => Occupancy::KEPT,
+            Kind::Movement(_) => Occupancy::KEPT,
         }
     }
 
@@ -151,6 +162,7 @@ impl Kind {
         match self {
             Kind::Light(x) => x.input(),
             Kind::Occupancy(x) => x.input(),
+            Kind::Movement(x) => x.input(),
         }
     }
 
@@ -161,6 +173,7 @@ impl Kind {
         match self {
             Kind::Light(x) => x.allows(sample),
             Kind::Occupancy(_) => Occupancy::allows(sample),
+            Kind::Movement(_) => Movement::allows(sample),
         }
     }
 
@@ -171,16 +184,73 @@ impl Kind {
         match self {
             Kind::Light(x) => Kind::Light(x),
             Kind::Occupancy(x) => Kind::Occupancy(x.allowing(allowed)),
+            Kind::Movement(x) => Kind::Movement(x.allowing(allowed)),
         }
     }
 
-    // Taking the held sample again changes nothing.
+    // Catch movement; the other types have no such command.
+    pub fn caught(self, settings: Settings) -> Kind
+        ensures { λ r. ⌜ r ≡ caught self settings ⌝ }
+    {
+        match self {
+            Kind::Light(x) => Kind::Light(x),
+            Kind::Occupancy(x) => Kind::Occupancy(x),
+            Kind::Movement(x) => Kind::Movement(x.caught(settings)),
+        }
+    }
+
+    // Cancel hold; the other types have no such command.
+    pub fn cancelled(self) -> Kind
+        ensures { λ r. ⌜ r ≡ cancelled self ⌝ }
+    {
+        match self {
+            Kind::Light(x) => Kind::Light(x),
+            Kind::Occupancy(x) => Kind::Occupancy(x),
+            Kind::Movement(x) => Kind::Movement(x.cancelled()),
+        }
+    }
+
+    // It catches movement.
+    pub fn catching(self) -> bool
+        ensures { λ r. ⌜ r ≡ catching self ⌝ }
+    {
+        match self {
+            Kind::Light(_) => false,
+            Kind::Occupancy(_) => false,
+            Kind::Movement(x) => x.catching,
+        }
+    }
+
+    // Taking the held sample again does no more than let its own timer fall.
     pub fn settled(self, settings: Settings, held: Sample) -> bool
         ensures { λ r. ⌜ r ≡ settled self settings held ⌝ }
     {
         match self {
             Kind::Light(x) => x.settled(held),
             Kind::Occupancy(x) => x.settled(settings, held),
+            Kind::Movement(x) => x.settled(settings, held),
+        }
+    }
+
+    // For how many ticks its own timer only falls. A type without one says forever: more ticks than a session can count.
+    pub fn falls_for(self, held: Sample) -> u32
+        ensures { λ r. ⌜ r ≡ fallsFor self held ⌝ }
+    {
+        match self {
+            Kind::Light(_) => u32::MAX,
+            Kind::Occupancy(_) => u32::MAX,
+            Kind::Movement(x) => x.falls_for(held),
+        }
+    }
+
+    // After n such ticks.
+    pub fn rested(self, n: u32) -> Kind
+        ensures { λ r. ⌜ r ≡ restedKind self n ⌝ }
+    {
+        match self {
+            Kind::Light(x) => Kind::Light(x),
+            Kind::Occupancy(x) => Kind::Occupancy(x),
+            Kind::Movement(x) => Kind::Movement(x.rested(n)),
         }
     }
 }

@@ -3,6 +3,7 @@
 mod instance;
 mod kind;
 mod light;
+mod movement;
 mod occupancy;
 mod sensors;
 mod settings;
@@ -15,6 +16,7 @@ pub use kind::Kind;
 pub use light::Band;
 pub use light::Basis;
 pub use light::Light;
+pub use movement::Movement;
 pub use occupancy::Occupancy;
 pub use sensors::Sensor;
 pub use settings::Sample;

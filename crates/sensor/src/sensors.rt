@@ -4,4 +4,6 @@ pub enum Sensor {
     Light { resolution: u8 },
     // Built to the text of 2017 (M-107).
     LightOf2017 { resolution: u8 },
+    // Movement-based occupancy (M-100).
+    Movement,
 }

@@ -9,6 +9,7 @@ pub struct Settings {
     pub enabled: bool,
     pub hysteresis: u8,
     pub minimum: u8,
+    pub hold: u8,
 }
 
 impl Settings {
@@ -21,6 +22,7 @@ impl Settings {
         enabled: false,
         hysteresis: 0,
         minimum: 0,
+        hold: 0,
     };
 }
 

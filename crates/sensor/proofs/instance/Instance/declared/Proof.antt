@@ -23,6 +23,12 @@ enum-known-sensor-2 c = search needs
 fresh-requires-3 : tie.Need-fresh-requires-3
 fresh-requires-3 c κs = search needs
 
+enum-told-2 : tie.Need-enum-told-2
+enum-told-2 c = search needs
+
+fresh-requires-4 : tie.Need-fresh-requires-4
+fresh-requires-4 c κs = search needs
+
 returns : tie.Need-returns
 unfolding declared
 returns c = rw (c .fresh .ensures, c .before .enum-told .given .1)
@@ -35,6 +41,10 @@ returns-3 : tie.Need-returns-3
 unfolding declared
 returns-3 c = rw (c .fresh3 .ensures, c .before .before .sensor2 .given .1)
 
+returns-4 : tie.Need-returns-4
+unfolding declared
+returns-4 c = rw (c .fresh4 .ensures, c .before .enum-told2 .given .1)
+
 pub declared-spec : {M : Type 1} → statement M
 declared-spec =
     tie.close
@@ -45,6 +55,9 @@ declared-spec =
     fresh-requires-2
     enum-known-sensor-2
     fresh-requires-3
+    enum-told-2
+    fresh-requires-4
     returns
     returns-2
-    returns-3)
+    returns-3
+    returns-4)

@@ -14,15 +14,29 @@ rules-requires c κs = search needs
 cause-requires : tie.Need-cause-requires
 cause-requires c κs = search needs
 
+falls-for-requires : tie.Need-falls-for-requires
+falls-for-requires c κs = search needs
+
 silent-for-requires : tie.Need-silent-for-requires
 silent-for-requires c κs = search needs
+
+least-requires : tie.Need-least-requires
+least-requires c κs = search needs
 
 returns : tie.Need-returns
 unfolding quietFor
 returns c =
-    let before = c .before .before .before in
-    let tested = before .before .before .before in
-    rw (c .silent-for .ensures, c .before .before .cause .ensures, before .rules .ensures, ← tested .before .steady .ensures, tested .if1 .taken)
+    let before = c .before .before .before .before in
+    let tested = before .before .before .before .before in
+    rw (
+      c .least .ensures,
+      c .before .silent-for .ensures,
+      c .before .before .before .falls-for .ensures,
+      before .cause .ensures,
+      before .before .rules .ensures,
+      ← tested .before .steady .ensures,
+      tested .if1 .taken,
+    )
 
 returns-2 : tie.Need-returns-2
 unfolding quietFor
@@ -35,6 +49,8 @@ quiet-for-spec =
     steady-requires
     rules-requires
     cause-requires
+    falls-for-requires
     silent-for-requires
+    least-requires
     returns
     returns-2)

@@ -8,9 +8,12 @@ use borrow.Author.Needs.{needs}
 rested-requires : tie.Need-rested-requires
 rested-requires c κs = search needs
 
+rested-requires-2 : tie.Need-rested-requires-2
+rested-requires-2 c κs = search needs
+
 returns : tie.Need-returns
 unfolding rested
-returns c = rw (c .before .before .before .rested .ensures)
+returns c = rw (c .before .before .before .rested2 .ensures, c .before .before .before .before .rested .ensures)
 
 pub rested-spec : {M : Type 1} → statement M
-rested-spec = tie.close (tie.spec rested-requires returns)
+rested-spec = tie.close (tie.spec rested-requires rested-requires-2 returns)

@@ -14,6 +14,12 @@ enum-known-self-2 c = search needs
 allowing-requires : tie.Need-allowing-requires
 allowing-requires c κs = search needs
 
+enum-known-self-3 : tie.Need-enum-known-self-3
+enum-known-self-3 c = search needs
+
+allowing-requires-2 : tie.Need-allowing-requires-2
+allowing-requires-2 c κs = search needs
+
 returns : tie.Need-returns
 unfolding allowing
 returns c = rw (c .before .self .given .1)
@@ -22,6 +28,19 @@ returns-2 : tie.Need-returns-2
 unfolding allowing
 returns-2 c = rw (c .allowing .ensures, c .before .before .self2 .given .1)
 
+returns-3 : tie.Need-returns-3
+unfolding allowing
+returns-3 c = rw (c .allowing2 .ensures, c .before .before .self3 .given .1)
+
 pub allowing-spec : {M : Type 1} → statement M
 allowing-spec =
-    tie.close (tie.spec enum-known-self enum-known-self-2 allowing-requires returns returns-2)
+    tie.close
+    (tie.spec
+    enum-known-self
+    enum-known-self-2
+    allowing-requires
+    enum-known-self-3
+    allowing-requires-2
+    returns
+    returns-2
+    returns-3)

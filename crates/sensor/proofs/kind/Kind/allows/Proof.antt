@@ -17,6 +17,12 @@ enum-told c = search needs
 allows-requires-2 : tie.Need-allows-requires-2
 allows-requires-2 c κs = search needs
 
+enum-told-2 : tie.Need-enum-told-2
+enum-told-2 c = search needs
+
+allows-requires-3 : tie.Need-allows-requires-3
+allows-requires-3 c κs = search needs
+
 returns : tie.Need-returns
 unfolding allows
 returns c = rw (c .allows .ensures, c .before .before .self .given .1)
@@ -25,7 +31,20 @@ returns-2 : tie.Need-returns-2
 unfolding allows
 returns-2 c = rw (c .allows2 .ensures, c .before .enum-told .given .1)
 
+returns-3 : tie.Need-returns-3
+unfolding allows
+returns-3 c = rw (c .allows3 .ensures, c .before .enum-told2 .given .1)
+
 pub allows-spec : {M : Type 1} → statement M
 allows-spec =
     tie.close
-    (tie.spec enum-known-self allows-requires enum-told allows-requires-2 returns returns-2)
+    (tie.spec
+    enum-known-self
+    allows-requires
+    enum-told
+    allows-requires-2
+    enum-told-2
+    allows-requires-3
+    returns
+    returns-2
+    returns-3)

@@ -17,6 +17,12 @@ enum-known-self-2 c = search needs
 cause-requires-2 : tie.Need-cause-requires-2
 cause-requires-2 c κs = search needs
 
+enum-known-self-3 : tie.Need-enum-known-self-3
+enum-known-self-3 c = search needs
+
+cause-requires-3 : tie.Need-cause-requires-3
+cause-requires-3 c κs = search needs
+
 returns : tie.Need-returns
 unfolding cause
 returns c = rw (c .cause .ensures, c .before .before .self .given .1)
@@ -25,7 +31,20 @@ returns-2 : tie.Need-returns-2
 unfolding cause
 returns-2 c = rw (c .cause2 .ensures, c .before .before .self2 .given .1)
 
+returns-3 : tie.Need-returns-3
+unfolding cause
+returns-3 c = rw (c .cause3 .ensures, c .before .before .self3 .given .1)
+
 pub cause-spec : {M : Type 1} → statement M
 cause-spec =
     tie.close
-    (tie.spec enum-known-self cause-requires enum-known-self-2 cause-requires-2 returns returns-2)
+    (tie.spec
+    enum-known-self
+    cause-requires
+    enum-known-self-2
+    cause-requires-2
+    enum-known-self-3
+    cause-requires-3
+    returns
+    returns-2
+    returns-3)

@@ -17,6 +17,12 @@ enum-known-self-2 c = search needs
 information-requires-2 : tie.Need-information-requires-2
 information-requires-2 c κs = search needs
 
+enum-known-self-3 : tie.Need-enum-known-self-3
+enum-known-self-3 c = search needs
+
+information-requires-3 : tie.Need-information-requires-3
+information-requires-3 c κs = search needs
+
 returns : tie.Need-returns
 unfolding information
 returns c = rw (c .information .ensures, c .before .before .self .given .1)
@@ -24,6 +30,10 @@ returns c = rw (c .information .ensures, c .before .before .self .given .1)
 returns-2 : tie.Need-returns-2
 unfolding information
 returns-2 c = rw (c .information2 .ensures, c .before .before .self2 .given .1)
+
+returns-3 : tie.Need-returns-3
+unfolding information
+returns-3 c = rw (c .information3 .ensures, c .before .before .self3 .given .1)
 
 pub information-spec : {M : Type 1} → statement M
 information-spec =
@@ -33,5 +43,8 @@ information-spec =
     information-requires
     enum-known-self-2
     information-requires-2
+    enum-known-self-3
+    information-requires-3
     returns
-    returns-2)
+    returns-2
+    returns-3)

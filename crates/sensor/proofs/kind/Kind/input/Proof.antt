@@ -17,6 +17,12 @@ enum-known-self-2 c = search needs
 input-requires-2 : tie.Need-input-requires-2
 input-requires-2 c κs = search needs
 
+enum-known-self-3 : tie.Need-enum-known-self-3
+enum-known-self-3 c = search needs
+
+input-requires-3 : tie.Need-input-requires-3
+input-requires-3 c κs = search needs
+
 returns : tie.Need-returns
 unfolding input
 returns c = rw (c .input .ensures, c .before .before .self .given .1)
@@ -25,7 +31,20 @@ returns-2 : tie.Need-returns-2
 unfolding input
 returns-2 c = rw (c .input2 .ensures, c .before .before .self2 .given .1)
 
+returns-3 : tie.Need-returns-3
+unfolding input
+returns-3 c = rw (c .input3 .ensures, c .before .before .self3 .given .1)
+
 pub input-spec : {M : Type 1} → statement M
 input-spec =
     tie.close
-    (tie.spec enum-known-self input-requires enum-known-self-2 input-requires-2 returns returns-2)
+    (tie.spec
+    enum-known-self
+    input-requires
+    enum-known-self-2
+    input-requires-2
+    enum-known-self-3
+    input-requires-3
+    returns
+    returns-2
+    returns-3)

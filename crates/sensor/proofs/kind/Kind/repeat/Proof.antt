@@ -17,6 +17,12 @@ enum-told-2 c = search needs
 repeat-requires-2 : tie.Need-repeat-requires-2
 repeat-requires-2 c κs = search needs
 
+enum-told-3 : tie.Need-enum-told-3
+enum-told-3 c = search needs
+
+repeat-requires-3 : tie.Need-repeat-requires-3
+repeat-requires-3 c κs = search needs
+
 returns : tie.Need-returns
 unfolding repeat
 returns c = rw (c .repeat .ensures, c .before .enum-told .given .1)
@@ -25,6 +31,20 @@ returns-2 : tie.Need-returns-2
 unfolding repeat
 returns-2 c = rw (c .repeat2 .ensures, c .before .enum-told2 .given .1)
 
+returns-3 : tie.Need-returns-3
+unfolding repeat
+returns-3 c = rw (c .repeat3 .ensures, c .before .enum-told3 .given .1)
+
 pub repeat-spec : {M : Type 1} → statement M
 repeat-spec =
-    tie.close (tie.spec enum-told repeat-requires enum-told-2 repeat-requires-2 returns returns-2)
+    tie.close
+    (tie.spec
+    enum-told
+    repeat-requires
+    enum-told-2
+    repeat-requires-2
+    enum-told-3
+    repeat-requires-3
+    returns
+    returns-2
+    returns-3)

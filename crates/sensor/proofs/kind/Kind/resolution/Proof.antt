@@ -11,6 +11,9 @@ enum-known-self c = search needs
 enum-told : tie.Need-enum-told
 enum-told c = search needs
 
+enum-told-2 : tie.Need-enum-told-2
+enum-told-2 c = search needs
+
 returns : tie.Need-returns
 unfolding resolution
 returns c = rw (c .before .self .given .1)
@@ -19,5 +22,10 @@ returns-2 : tie.Need-returns-2
 unfolding resolution
 returns-2 c = rw (c .enum-told .given .1)
 
+returns-3 : tie.Need-returns-3
+unfolding resolution
+returns-3 c = rw (c .enum-told2 .given .1)
+
 pub resolution-spec : {M : Type 1} → statement M
-resolution-spec = tie.close (tie.spec enum-known-self enum-told returns returns-2)
+resolution-spec =
+    tie.close (tie.spec enum-known-self enum-told enum-told-2 returns returns-2 returns-3)

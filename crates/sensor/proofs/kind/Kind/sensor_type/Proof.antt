@@ -11,6 +11,9 @@ enum-told c = search needs
 enum-told-2 : tie.Need-enum-told-2
 enum-told-2 c = search needs
 
+enum-told-3 : tie.Need-enum-told-3
+enum-told-3 c = search needs
+
 returns : tie.Need-returns
 unfolding sensorType
 returns c = rw (c .enum-told .given .1)
@@ -19,5 +22,10 @@ returns-2 : tie.Need-returns-2
 unfolding sensorType
 returns-2 c = rw (c .enum-told2 .given .1)
 
+returns-3 : tie.Need-returns-3
+unfolding sensorType
+returns-3 c = rw (c .enum-told3 .given .1)
+
 pub sensor-type-spec : {M : Type 1} → statement M
-sensor-type-spec = tie.close (tie.spec enum-told enum-told-2 returns returns-2)
+sensor-type-spec =
+    tie.close (tie.spec enum-told enum-told-2 enum-told-3 returns returns-2 returns-3)

@@ -17,6 +17,12 @@ enum-known-self-2 c = search needs
 settled-requires-2 : tie.Need-settled-requires-2
 settled-requires-2 c κs = search needs
 
+enum-known-self-3 : tie.Need-enum-known-self-3
+enum-known-self-3 c = search needs
+
+settled-requires-3 : tie.Need-settled-requires-3
+settled-requires-3 c κs = search needs
+
 returns : tie.Need-returns
 unfolding settled
 returns c = rw (c .settled .ensures, c .before .before .self .given .1)
@@ -24,6 +30,10 @@ returns c = rw (c .settled .ensures, c .before .before .self .given .1)
 returns-2 : tie.Need-returns-2
 unfolding settled
 returns-2 c = rw (c .settled2 .ensures, c .before .before .self2 .given .1)
+
+returns-3 : tie.Need-returns-3
+unfolding settled
+returns-3 c = rw (c .settled3 .ensures, c .before .before .self3 .given .1)
 
 pub settled-spec : {M : Type 1} → statement M
 settled-spec =
@@ -33,5 +43,8 @@ settled-spec =
     settled-requires
     enum-known-self-2
     settled-requires-2
+    enum-known-self-3
+    settled-requires-3
     returns
-    returns-2)
+    returns-2
+    returns-3)

@@ -1,0 +1,35 @@
+-- `sensor::kind::Kind::falls_for` meets its contract.
+-- Assumes nothing.
+use Rattle.sensor.proofs.kind.Kind.falls_for.Statement.{statement}
+use Rattle.sensor.proofs.kind.Kind.falls_for.Tie as tie
+use Rattle.sensor.specs.Quiet.{fallsFor}
+use borrow.Author.Needs.{needs}
+
+enum-told : tie.Need-enum-told
+enum-told c = search needs
+
+enum-told-2 : tie.Need-enum-told-2
+enum-told-2 c = search needs
+
+enum-known-self : tie.Need-enum-known-self
+enum-known-self c = search needs
+
+falls-for-requires : tie.Need-falls-for-requires
+falls-for-requires c κs = search needs
+
+returns : tie.Need-returns
+unfolding fallsFor
+returns c = rw (c .enum-told .given .1)
+
+returns-2 : tie.Need-returns-2
+unfolding fallsFor
+returns-2 c = rw (c .enum-told2 .given .1)
+
+returns-3 : tie.Need-returns-3
+unfolding fallsFor
+returns-3 c = rw (c .falls-for .ensures, c .before .before .self .given .1)
+
+pub falls-for-spec : {M : Type 1} → statement M
+falls-for-spec =
+    tie.close
+    (tie.spec enum-told enum-told-2 enum-known-self falls-for-requires returns returns-2 returns-3)
