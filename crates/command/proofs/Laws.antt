@@ -1,24 +1,29 @@
--- Document 01, "Frames", with M-103: what its sentences on commands and queries say of the definitions.
+-- Document 01, "Frames", with M-103 and M-100: what its sentences on commands and queries say of the definitions.
 -- Assumes nothing.
 use Prim.Native.Nat.{ℕ, _<_, _≤_}
 use Rattle.command.specs.Answering.{ButLatch, acted, actedBy, answered, latched, queried}
+use Rattle.command.specs.Controlling.{ButHoldAndCatching, controlled, controlledKind}
 use Rattle.command.specs.Setting.{blockChanged, boundedHysteresis, boundedPriority, changed, filtered, obeyed, retimed, retimedDead, retimedReport}
 use Rattle.command.specs.declared.answering.Answer.the-variants.{None}
-use Rattle.opcode.specs.Meaning.{isSetting, meant}
-use Rattle.opcode.specs.declared.Command.the-variants.{Disable, Enable, SetDeadtime, SetFilter, SetHysteresis, SetHysteresisMin, SetPriority, SetReport}
+use Rattle.opcode.specs.Meaning.{isControl, isSetting, meant}
+use Rattle.opcode.specs.declared.Command.the-variants.{Disable, Enable, SetDeadtime, SetFilter, SetHold, SetHysteresis, SetHysteresisMin, SetPriority, SetReport}
 use Rattle.opcode.specs.declared.Command.{Command}
-use Rattle.opcode.specs.declared.Meaning.the-variants.{Ask, Ignored, Set}
+use Rattle.opcode.specs.declared.Control.the-variants.{CancelHold, CatchMovement}
+use Rattle.opcode.specs.declared.Control.{Control}
+use Rattle.opcode.specs.declared.Meaning.the-variants.{Act, Ask, Ignored, Set}
 use Rattle.opcode.specs.declared.Meaning.{Meaning}
 use Rattle.opcode.specs.declared.Query.the-variants.{QueryNext, QueryValue, QueryVariable}
 use Rattle.opcode.specs.declared.Query.{Query}
 use Rattle.sensor.specs.Fresh.{fresh}
-use Rattle.sensor.specs.Instance.{withSettings, withTimers}
-use Rattle.sensor.specs.Kind.{allowing, kept, repeat, rules, units}
+use Rattle.sensor.specs.Instance.{withKind, withSettings, withTimers}
+use Rattle.sensor.specs.Kind.{allowing, cancelled, caught, kept, repeat, rules, units}
+use Rattle.sensor.specs.Movement.{movementAllowing, movementCancelled, movementCaught, withSeen}
 use Rattle.sensor.specs.Occupancy.{occupancyAllowing}
 use Rattle.sensor.specs.Settings.{withDeadtime, withReport}
 use Rattle.sensor.specs.declared.instance.Instance.{Instance}
-use Rattle.sensor.specs.declared.kind.Kind.the-variants.{Light, Occupancy}
+use Rattle.sensor.specs.declared.kind.Kind.the-variants.{Light, Movement, Occupancy}
 use Rattle.sensor.specs.declared.kind.Kind.{Kind}
+use Rattle.sensor.specs.declared.movement.Movement.{Movement as MovementState}
 use Rattle.sensor.specs.declared.occupancy.Occupancy.{Occupancy as OccupancyState}
 use Rattle.sensor.specs.declared.settings.Sample.{Sample}
 use Rattle.sensor.specs.declared.settings.Settings.{Settings}
@@ -41,21 +46,68 @@ query-keeps x QueryValue = refl
 query-keeps x QueryNext = refl
 
 -- ---- what byte 3 does
--- anything but a setting command keeps the settings, the timers and the rest
-by-keeps : (x : Instance) (m : Meaning) (d : ℕ) → isSetting m ≡ false → ButLatch x (actedBy x m d .instance)
-unfolding actedBy isSetting
-by-keeps x (Set c) d e = absurd (true≢false e)
-by-keeps x (Ask q) d e = query-keeps x q
-by-keeps x Ignored d e = refl
+-- anything but a setting command and a control instruction keeps the settings, the timers and the rest
+by-keeps : (x : Instance) (m : Meaning) (d : ℕ) → isSetting m ≡ false → isControl m ≡ false → ButLatch x (actedBy x m d .instance)
+unfolding actedBy isSetting isControl
+by-keeps x (Set c) d e f = absurd (true≢false e)
+by-keeps x (Act c) d e f = absurd (true≢false f)
+by-keeps x (Ask q) d e f = query-keeps x q
+by-keeps x Ignored d e f = refl
 
-pub calm-keeps : (x : Instance) (opcode dtr0 : ℕ) → isSetting (meant (x .kind) opcode) ≡ false → ButLatch x (acted x opcode dtr0 .instance)
+pub calm-keeps : (x : Instance) (opcode dtr0 : ℕ) → isSetting (meant (x .kind) opcode) ≡ false → isControl (meant (x .kind) opcode) ≡ false
+    → ButLatch x (acted x opcode dtr0 .instance)
 unfolding acted
-calm-keeps x opcode dtr0 e = by-keeps x (meant (x .kind) opcode) dtr0 e
+calm-keeps x opcode dtr0 e f = by-keeps x (meant (x .kind) opcode) dtr0 e f
+
+-- a control instruction changes at most catching and the hold timer of a movement sensor
+control-kind : (k : Kind) (c : Control) (s : Settings) → ButHoldAndCatching k (controlledKind k c s)
+unfolding controlledKind caught cancelled movementCaught movementCancelled
+control-kind (Light l) CatchMovement s = refl
+control-kind (Light l) CancelHold s = refl
+control-kind (Occupancy o) CatchMovement s = refl
+control-kind (Occupancy o) CancelHold s = refl
+control-kind (Movement m) CatchMovement s = (m .hold, _, refl)
+control-kind (Movement m) CancelHold s = (_, m .catching, refl)
+
+pub control-changes : (x : Instance) (c : Control) → ButHoldAndCatching (x .kind) (controlled x c .kind) × (controlled x c ≡ withKind (controlled x c .kind) x)
+unfolding controlled
+control-changes x c = (control-kind (x .kind) c (x .settings), refl)
+
+pub acts-so : (x : Instance) (opcode dtr0 : ℕ) (c : Control) → meant (x .kind) opcode ≡ Act c
+    → acted x opcode dtr0 ≡ record { instance = controlled x c; answer = None }
+unfolding acted actedBy
+acts-so x opcode dtr0 c e = rw e
+
+-- what is no setting command keeps the timers and what the decision goes by
+rules-controlled : (k : Kind) (c : Control) (s : Settings) → rules (controlledKind k c s) s ≡ rules k s
+unfolding controlledKind caught cancelled repeat rules units
+rules-controlled (Light l) CatchMovement s = refl
+rules-controlled (Light l) CancelHold s = refl
+rules-controlled (Occupancy o) CatchMovement s = refl
+rules-controlled (Occupancy o) CancelHold s = refl
+rules-controlled (Movement m) CatchMovement s = refl
+rules-controlled (Movement m) CancelHold s = refl
+
+by-untimed : (x : Instance) (m : Meaning) (d : ℕ) → isSetting m ≡ false
+    → (rules (actedBy x m d .instance .kind) (actedBy x m d .instance .settings) ≡ rules (x .kind) (x .settings))
+    × (actedBy x m d .instance .timers ≡ x .timers)
+unfolding actedBy controlled isSetting
+by-untimed x (Set c) d e = absurd (true≢false e)
+by-untimed x (Act c) d e = (rules-controlled (x .kind) c (x .settings), refl)
+by-untimed x (Ask q) d e = let keeps = query-keeps x q in (ap (λ y. rules (y .kind) (y .settings)) keeps, ap (λ y. y .timers) keeps)
+by-untimed x Ignored d e = (refl, refl)
+
+pub calm-untimed : (x : Instance) (opcode dtr0 : ℕ) → isSetting (meant (x .kind) opcode) ≡ false
+    → (rules (acted x opcode dtr0 .instance .kind) (acted x opcode dtr0 .instance .settings) ≡ rules (x .kind) (x .settings))
+    × (acted x opcode dtr0 .instance .timers ≡ x .timers)
+unfolding acted
+calm-untimed x opcode dtr0 e = by-untimed x (meant (x .kind) opcode) dtr0 e
 
 -- a setting command answers nothing
 by-silent : (x : Instance) (m : Meaning) (d : ℕ) → isSetting m ≡ true → actedBy x m d .answer ≡ None
 unfolding actedBy isSetting
 by-silent x (Set c) d e = refl
+by-silent x (Act c) d e = absurd (false≢true e)
 by-silent x (Ask q) d e = absurd (false≢true e)
 by-silent x Ignored d e = absurd (false≢true e)
 
@@ -70,8 +122,9 @@ ignored-nothing x opcode dtr0 e = rw e
 
 -- no command touches the held sample, nor the error
 by-held : (x : Instance) (m : Meaning) (d : ℕ) → actedBy x m d .instance .held ≡ x .held
-unfolding actedBy obeyed blockChanged
+unfolding actedBy controlled obeyed blockChanged
 by-held x (Set c) d = refl
+by-held x (Act c) d = refl
 by-held x (Ask q) d = ap (λ y. y .held) (query-keeps x q)
 by-held x Ignored d = refl
 
@@ -80,8 +133,9 @@ unfolding acted
 held-kept x opcode dtr0 = by-held x (meant (x .kind) opcode) dtr0
 
 by-failed : (x : Instance) (m : Meaning) (d : ℕ) → actedBy x m d .instance .failed ≡ x .failed
-unfolding actedBy obeyed blockChanged
+unfolding actedBy controlled obeyed blockChanged
 by-failed x (Set c) d = refl
+by-failed x (Act c) d = refl
 by-failed x (Ask q) d = ap (λ y. y .failed) (query-keeps x q)
 by-failed x Ignored d = refl
 
@@ -94,6 +148,7 @@ rules-allowed : (k : Kind) (filter : ℕ) (s : Settings) → rules (allowing k f
 unfolding allowing repeat rules units
 rules-allowed (Light l) filter s = refl
 rules-allowed (Occupancy o) filter s = refl
+rules-allowed (Movement m) filter s = refl
 
 pub rules-allowing : (k : Kind) (c : Command) (filter : ℕ) (s : Settings) → rules (filtered k c filter) s ≡ rules k s
 unfolding filtered
@@ -105,6 +160,7 @@ rules-allowing k SetReport filter s = refl
 rules-allowing k SetDeadtime filter s = refl
 rules-allowing k SetHysteresis filter s = refl
 rules-allowing k SetHysteresisMin filter s = refl
+rules-allowing k SetHold filter s = refl
 
 pub obeyed-settings : (x : Instance) (c : Command) (d : ℕ) → obeyed x c d .settings ≡ changed (x .settings) c d (kept (x .kind))
 unfolding obeyed blockChanged
@@ -199,6 +255,10 @@ report-covers r = le-max-left (deadTime r) _
 pub disabling-clears : (o : OccupancyState) (filter : ℕ) → filtered (Occupancy o) Disable filter ≡ Occupancy (record { value = o .value; waiting = 0 })
 unfolding allowing filtered occupancyAllowing
 disabling-clears o filter = rw (and-zero-r (o .waiting))
+
+pub disabling-clears-movement : (m : MovementState) (filter : ℕ) → filtered (Movement m) Disable filter ≡ Movement (withSeen (record { value = m .seen .value; waiting = 0 }) m)
+unfolding allowing filtered movementAllowing occupancyAllowing
+disabling-clears-movement m filter = rw (and-zero-r (m .seen .waiting))
 
 -- ---- the latch: 8D answers none when it is used up
 pub used-up : (x : Instance) → x .latch .left ≡ 0 → queried x QueryNext .answer ≡ None

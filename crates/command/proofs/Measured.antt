@@ -2,14 +2,15 @@
 -- Assumes nothing.
 use Prim.Native.Nat.{ℕ}
 use Rattle.command.specs.Answering.{acted, actedBy, answered, queried, valueOf}
+use Rattle.command.specs.Controlling.{controlled}
 use Rattle.command.specs.Setting.{blockChanged, obeyed}
 use Rattle.command.specs.declared.answering.Acted.{Acted}
 use Rattle.opcode.specs.Meaning.{meant}
-use Rattle.opcode.specs.declared.Meaning.the-variants.{Ask, Ignored, Set}
+use Rattle.opcode.specs.declared.Meaning.the-variants.{Act, Ask, Ignored, Set}
 use Rattle.opcode.specs.declared.Meaning.{Meaning}
 use Rattle.opcode.specs.declared.Query.the-variants.{QueryNext, QueryValue, QueryVariable}
 use Rattle.opcode.specs.declared.Query.{Query}
-use Rattle.opcode.specs.declared.Variable.the-variants.{Deadtime, Enabled, Error, Filter, Hysteresis, HysteresisMin, Priority, Report, Resolution, SensorType, Status}
+use Rattle.opcode.specs.declared.Variable.the-variants.{Catching, Deadtime, Enabled, Error, Filter, Hold, Hysteresis, HysteresisMin, Priority, Report, Resolution, SensorType, Status}
 use Rattle.opcode.specs.declared.Variable.{Variable}
 use Rattle.sensor.specs.Instance.{withMeasured}
 use Rattle.sensor.specs.declared.instance.Instance.{Instance}
@@ -34,6 +35,8 @@ module _ (x : Instance) (b : Bool) where
   value-unread Deadtime = refl
   value-unread Hysteresis = refl
   value-unread HysteresisMin = refl
+  value-unread Hold = refl
+  value-unread Catching = refl
 
   query-unread : (q : Query) → queried (withMeasured b x) q ≡ but b (queried x q)
   unfolding answered queried
@@ -42,8 +45,9 @@ module _ (x : Instance) (b : Bool) where
   query-unread QueryNext = refl
 
   by-unread : (m : Meaning) (d : ℕ) → actedBy (withMeasured b x) m d ≡ but b (actedBy x m d)
-  unfolding actedBy blockChanged obeyed
+  unfolding actedBy blockChanged controlled obeyed
   by-unread (Set c) d = refl
+  by-unread (Act c) d = refl
   by-unread (Ask q) d = query-unread q
   by-unread Ignored d = refl
 

@@ -4,7 +4,7 @@
 use Prim.Native.Nat.{ℕ}
 use Rattle.command.specs.Setting.{filtered, retimed}
 use Rattle.opcode.proofs.Command as C
-use Rattle.opcode.specs.declared.Command.the-variants.{Disable, Enable, SetDeadtime, SetFilter, SetHysteresis, SetHysteresisMin, SetPriority, SetReport}
+use Rattle.opcode.specs.declared.Command.the-variants.{Disable, Enable, SetDeadtime, SetFilter, SetHold, SetHysteresis, SetHysteresisMin, SetPriority, SetReport}
 use Rattle.opcode.specs.declared.Command.{Command}
 use Rattle.sensor.specs.declared.kind.Kind.{Kind}
 use Rattle.timers.specs.declared.Rules.{Rules}
@@ -19,7 +19,7 @@ tags cs = map (tagOf C.the-type) cs
 
 -- every command but SetReport and SetDeadtime keeps the timers
 abbrev no-time : List ℕ
-no-time = tags (SetPriority ∷ Enable ∷ Disable ∷ SetFilter ∷ SetHysteresis ∷ SetHysteresisMin ∷ [])
+no-time = tags (SetPriority ∷ Enable ∷ Disable ∷ SetFilter ∷ SetHysteresis ∷ SetHysteresisMin ∷ SetHold ∷ [])
 
 pub same-timers : (t : Timers) (x : Command) (r : Rules) → OneOf no-time (tagOf C.the-type x) → t ≡ retimed t x r
 unfolding retimed
@@ -31,10 +31,11 @@ same-timers t SetReport r h = absurd (miss no-time (tagOf C.the-type SetReport) 
 same-timers t SetDeadtime r h = absurd (miss no-time (tagOf C.the-type SetDeadtime) tt h)
 same-timers t SetHysteresis r h = refl
 same-timers t SetHysteresisMin r h = refl
+same-timers t SetHold r h = refl
 
 -- every command but Disable and SetFilter keeps the waiting triggers
 abbrev no-loss : List ℕ
-no-loss = tags (SetPriority ∷ Enable ∷ SetReport ∷ SetDeadtime ∷ SetHysteresis ∷ SetHysteresisMin ∷ [])
+no-loss = tags (SetPriority ∷ Enable ∷ SetReport ∷ SetDeadtime ∷ SetHysteresis ∷ SetHysteresisMin ∷ SetHold ∷ [])
 
 pub same-kind : (k : Kind) (x : Command) (filter : ℕ) → OneOf no-loss (tagOf C.the-type x) → k ≡ filtered k x filter
 unfolding filtered
@@ -46,3 +47,4 @@ same-kind k SetReport filter h = refl
 same-kind k SetDeadtime filter h = refl
 same-kind k SetHysteresis filter h = refl
 same-kind k SetHysteresisMin filter h = refl
+same-kind k SetHold filter h = refl

@@ -6,6 +6,8 @@ use Rattle.command.proofs.acted.Reads as acted
 use Rattle.command.proofs.apply
 use Rattle.command.proofs.changed.Kinds as changed-kinds
 use Rattle.command.proofs.changed.Reads as changed
+use Rattle.command.proofs.controlled.Kinds as controlled-kinds
+use Rattle.command.proofs.controlled.Reads as controlled
 use Rattle.command.proofs.obeyed.Kinds as obeyed-kinds
 use Rattle.command.proofs.obeyed.Reads as obeyed
 use Rattle.command.proofs.queried.Kinds as queried-kinds
@@ -50,3 +52,6 @@ changed-unique κs a x y s t p q = p ∙ sym q
 
 pub obeyed-unique : Unique 0 obeyed-kinds.ps obeyed-kinds.r obeyed.Post
 obeyed-unique κs a x y s t p q = p ∙ sym q
+
+pub controlled-unique : Unique 0 controlled-kinds.ps controlled-kinds.r controlled.Post
+controlled-unique κs a x y s t p q = p ∙ sym q

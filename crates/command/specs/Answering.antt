@@ -1,20 +1,21 @@
--- Document 01, "Frames": what a query is answered, with the latch of inputValue, and what byte 3 does in all.
+-- Document 01, "Frames", with M-100: what a query is answered, with the latch of inputValue, and what byte 3 does in all.
 -- Assumes nothing.
 use Prim.Native.Nat.{ℕ, _%_, _-_, _/_, _^_}
+use Rattle.command.specs.Controlling.{controlled}
 use Rattle.command.specs.Setting.{obeyed}
 use Rattle.command.specs.declared.answering.Acted.{Acted}
 use Rattle.command.specs.declared.answering.Answer.the-variants.{Byte, None}
 use Rattle.command.specs.declared.answering.Answer.{Answer}
 use Rattle.command.specs.declared.answering.Piece.{Piece}
 use Rattle.opcode.specs.Meaning.{meant}
-use Rattle.opcode.specs.declared.Meaning.the-variants.{Ask, Ignored, Set}
+use Rattle.opcode.specs.declared.Meaning.the-variants.{Act, Ask, Ignored, Set}
 use Rattle.opcode.specs.declared.Meaning.{Meaning}
 use Rattle.opcode.specs.declared.Query.the-variants.{QueryNext, QueryValue, QueryVariable}
 use Rattle.opcode.specs.declared.Query.{Query}
-use Rattle.opcode.specs.declared.Variable.the-variants.{Deadtime, Enabled, Error, Filter, Hysteresis, HysteresisMin, Priority, Report, Resolution, SensorType, Status}
+use Rattle.opcode.specs.declared.Variable.the-variants.{Catching, Deadtime, Enabled, Error, Filter, Hold, Hysteresis, HysteresisMin, Priority, Report, Resolution, SensorType, Status}
 use Rattle.opcode.specs.declared.Variable.{Variable}
 use Rattle.sensor.specs.Instance.{withLatch}
-use Rattle.sensor.specs.Kind.{input, resolution, sensorType}
+use Rattle.sensor.specs.Kind.{catching, input, resolution, sensorType}
 use Rattle.sensor.specs.declared.instance.Instance.{Instance}
 use Rattle.widen.specs.Width.{inputBytes}
 use lib.Dec.{eqb}
@@ -46,6 +47,8 @@ valueOf x Report = Byte (x .settings .report)
 valueOf x Deadtime = Byte (x .settings .deadtime)
 valueOf x Hysteresis = Byte (x .settings .hysteresis)
 valueOf x HysteresisMin = Byte (x .settings .minimum)
+valueOf x Hold = Byte (x .settings .hold)
+valueOf x Catching = onlyIf (catching (x .kind)) 0xFF
 
 -- ---- inputValue
 -- the top of the `left` lowest bytes, and the rest latched; none when used up
@@ -64,9 +67,10 @@ queried x (QueryVariable variable) = record { instance = x; answer = valueOf x v
 queried x QueryValue = answered x (latched (input (x .kind)) (inputBytes (resolution (x .kind))))
 queried x QueryNext = answered x (latched (x .latch .bytes) (x .latch .left))
 
--- ---- what byte 3 does: a setting command answers nothing; anything else is ignored
+-- ---- what byte 3 does: a setting command and a control instruction answer nothing; anything else is ignored
 unfoldable pub actedBy : Instance → Meaning → (dtr0 : ℕ) → Acted
 actedBy x (Set command) dtr0 = record { instance = obeyed x command dtr0; answer = None }
+actedBy x (Act control) dtr0 = record { instance = controlled x control; answer = None }
 actedBy x (Ask query) dtr0 = queried x query
 actedBy x Ignored dtr0 = record { instance = x; answer = None }
 

@@ -1,2 +1,3 @@
 pub mod Setting
+pub mod Controlling
 pub mod Answering

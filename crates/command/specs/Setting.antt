@@ -1,11 +1,11 @@
--- Document 01, "Frames", with M-103: what a setting command makes of the settings, of the timers and of the waiting triggers.
+-- Document 01, "Frames", with M-103 and M-100: what a setting command makes of the settings, of the timers and of the waiting triggers.
 -- Assumes nothing.
 use Prim.Native.Nat.{ℕ}
-use Rattle.opcode.specs.declared.Command.the-variants.{Disable, Enable, SetDeadtime, SetFilter, SetHysteresis, SetHysteresisMin, SetPriority, SetReport}
+use Rattle.opcode.specs.declared.Command.the-variants.{Disable, Enable, SetDeadtime, SetFilter, SetHold, SetHysteresis, SetHysteresisMin, SetPriority, SetReport}
 use Rattle.opcode.specs.declared.Command.{Command}
 use Rattle.sensor.specs.Instance.{withKind, withSettings, withTimers}
 use Rattle.sensor.specs.Kind.{allowing, kept, rules}
-use Rattle.sensor.specs.Settings.{withDeadtime, withEnabled, withFilter, withHysteresis, withMinimum, withPriority, withReport}
+use Rattle.sensor.specs.Settings.{withDeadtime, withEnabled, withFilter, withHold, withHysteresis, withMinimum, withPriority, withReport}
 use Rattle.sensor.specs.declared.instance.Instance.{Instance}
 use Rattle.sensor.specs.declared.kind.Kind.{Kind}
 use Rattle.sensor.specs.declared.settings.Settings.{Settings}
@@ -27,6 +27,10 @@ boundedPriority s d = cond (ltb d 2) s (cond (ltb 5 d) s (withPriority d s))
 unfoldable pub boundedHysteresis : Settings → (d : ℕ) → Settings
 boundedHysteresis s d = cond (ltb 25 d) s (withHysteresis d s)
 
+-- M-100: 255: no change
+unfoldable pub boundedHold : Settings → (d : ℕ) → Settings
+boundedHold s d = cond (eqb d 255) s (withHold d s)
+
 -- of a new filter only the kept bits
 unfoldable pub changed : Settings → Command → (dtr0 kept : ℕ) → Settings
 changed s SetPriority d kept = boundedPriority s d
@@ -37,6 +41,7 @@ changed s SetReport d kept = withReport d s
 changed s SetDeadtime d kept = withDeadtime d s
 changed s SetHysteresis d kept = boundedHysteresis s d
 changed s SetHysteresisMin d kept = withMinimum d s
+changed s SetHold d kept = boundedHold s d
 
 -- ---- the timers after a command: a new time serves from the next start of its timer, with three exceptions
 -- report set to 0 stops the report timer at once; report set above 0 while stopped starts it at once
@@ -57,6 +62,7 @@ retimed t Disable r = t
 retimed t SetFilter r = t
 retimed t SetHysteresis r = t
 retimed t SetHysteresisMin r = t
+retimed t SetHold r = t
 
 -- ---- the waiting triggers after a command: disabling clears them; a new filter keeps only those it allows
 unfoldable pub filtered : Kind → Command → (filter : ℕ) → Kind
@@ -68,6 +74,7 @@ filtered k SetReport filter = k
 filtered k SetDeadtime filter = k
 filtered k SetHysteresis filter = k
 filtered k SetHysteresisMin filter = k
+filtered k SetHold filter = k
 
 -- ---- the instance after a command
 -- its settings block changed, and nothing else

@@ -90,6 +90,8 @@ fn value_of(x: Instance, variable: Variable) -> Answer
         Variable::Deadtime => Answer::Byte(settings.deadtime),
         Variable::Hysteresis => Answer::Byte(settings.hysteresis),
         Variable::HysteresisMin => Answer::Byte(settings.minimum),
+        Variable::Hold => Answer::Byte(settings.hold),
+        Variable::Catching => only_if(kind.catching(), 0xFF),
     }
 }
 

@@ -1,11 +1,13 @@
 // What byte 3 of a frame does to an instance (document 01, "Frames"). All by value, but for the settings block, which an instance lends.
 mod answering;
+mod controlling;
 mod lent;
 mod setting;
 
 pub use answering::Acted;
 pub use answering::Answer;
 pub use answering::queried;
+pub use controlling::controlled;
 pub use lent::apply;
 use opcode::Meaning;
 use sensor::Instance;
@@ -22,6 +24,13 @@ pub fn acted(x: Instance, opcode: u8, dtr0: u8) -> Acted
     match opcode::meant(kind, opcode) {
         Meaning::Set(command) => {
             let instance = setting::obeyed(x, command, dtr0);
+            Acted {
+                instance,
+                answer: Answer::None,
+            }
+        }
+        Meaning::Act(control) => {
+            let instance = controlling::controlled(x, control);
             Acted {
                 instance,
                 answer: Answer::None,

@@ -7,7 +7,7 @@ use sensor::Settings;
 use timers::Report;
 use timers::Rules;
 use timers::Timers;
-ghost use Rattle.command.specs.Setting.{blockChanged, boundedHysteresis, boundedPriority, changed, filtered, obeyed, retimed, retimedDead, retimedReport};
+ghost use Rattle.command.specs.Setting.{blockChanged, boundedHold, boundedHysteresis, boundedPriority, changed, filtered, obeyed, retimed, retimedDead, retimedReport};
 ghost use Rattle.sensor.specs.Settings.{withDeadtime, withEnabled, withFilter, withMinimum, withReport};
 ghost use mathlib.Core.Path.{_≡_};
 
@@ -24,6 +24,7 @@ pub fn changed(settings: Settings, command: Command, dtr0: u8, kept: u8) -> Sett
         Command::SetDeadtime => with_deadtime(settings, dtr0),
         Command::SetHysteresis => bounded_hysteresis(settings, dtr0),
         Command::SetHysteresisMin => with_minimum(settings, dtr0),
+        Command::SetHold => bounded_hold(settings, dtr0),
     }
 }
 
@@ -176,6 +177,19 @@ fn with_minimum(settings: Settings, d: u8) -> Settings
 {
     Settings {
         minimum: d,
+        ..settings
+    }
+}
+
+// 255: no change.
+fn bounded_hold(settings: Settings, d: u8) -> Settings
+    ensures { λ r. ⌜ r ≡ boundedHold settings d ⌝ }
+{
+    if d == 255 {
+        return settings;
+    }
+    Settings {
+        hold: d,
         ..settings
     }
 }

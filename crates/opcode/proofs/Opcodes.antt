@@ -2,7 +2,7 @@
 -- once, of any table in which no opcode stands twice.
 -- Assumes nothing.
 use Prim.Native.Nat.{ℕ}
-use Rattle.opcode.specs.Meaning.{Case, isSetting, lightCases, lightMeaning, meantIn, occupancyCases, occupancyMeaning}
+use Rattle.opcode.specs.Meaning.{Case, isSetting, lightCases, lightMeaning, meantIn, movementCases, movementMeaning, occupancyCases, occupancyMeaning}
 use Rattle.opcode.specs.declared.Meaning.the-variants.{Ignored}
 use Rattle.opcode.specs.declared.Meaning.{Meaning}
 use Rattle.sensor.proofs.Table.{both, each, every}
@@ -73,7 +73,16 @@ pub occupancy-else : (n : ℕ) → (occupancyMeaning n ≡ Ignored) ⊎ List·Me
 unfolding occupancyMeaning
 occupancy-else n = else occupancyCases n
 
--- ---- setting commands are the set opcodes 30 to 33 (light) and 22, 23 (occupancy), and 61, 62, 63, 68
+-- ---- movement (M-100)
+pub movement-right : (c : Case) → List·Memᴰ c movementCases → movementMeaning (c .opcode) ≡ c .means
+unfolding movementMeaning
+movement-right c m = right movementCases tt c m
+
+pub movement-else : (n : ℕ) → (movementMeaning n ≡ Ignored) ⊎ List·Memᴰ (row n (movementMeaning n)) movementCases
+unfolding movementMeaning
+movement-else n = else movementCases n
+
+-- ---- setting commands are the set opcodes 30 to 33 (light) and 22, 23 (occupancy), with 21 (movement), and 61, 62, 63, 68
 abbrev pub settingOpcodes : List Case → List ℕ
 settingOpcodes [] = []
 settingOpcodes (c ∷ cs) = cond (isSetting (c .means)) (c .opcode ∷ settingOpcodes cs) (settingOpcodes cs)
@@ -85,3 +94,7 @@ light-settings = refl
 pub occupancy-settings : settingOpcodes occupancyCases ≡ 0x22 ∷ 0x23 ∷ 0x61 ∷ 0x62 ∷ 0x63 ∷ 0x68 ∷ []
 unfolding isSetting
 occupancy-settings = refl
+
+pub movement-settings : settingOpcodes movementCases ≡ 0x21 ∷ 0x22 ∷ 0x23 ∷ 0x61 ∷ 0x62 ∷ 0x63 ∷ 0x68 ∷ []
+unfolding isSetting
+movement-settings = refl

@@ -5,6 +5,8 @@ use Rattle.opcode.proofs.light_meaning.Kinds as light-meaning-kinds
 use Rattle.opcode.proofs.light_meaning.Reads as light-meaning
 use Rattle.opcode.proofs.meant.Kinds as meant-kinds
 use Rattle.opcode.proofs.meant.Reads as meant
+use Rattle.opcode.proofs.movement_meaning.Kinds as movement-meaning-kinds
+use Rattle.opcode.proofs.movement_meaning.Reads as movement-meaning
 use Rattle.opcode.proofs.occupancy_meaning.Kinds as occupancy-meaning-kinds
 use Rattle.opcode.proofs.occupancy_meaning.Reads as occupancy-meaning
 use Rattle.promise.specs.Unique.{Unique}
@@ -15,6 +17,9 @@ light-meaning-unique κs a x y s t p q = p ∙ sym q
 
 pub occupancy-meaning-unique : Unique 0 occupancy-meaning-kinds.ps occupancy-meaning-kinds.r occupancy-meaning.Post
 occupancy-meaning-unique κs a x y s t p q = p ∙ sym q
+
+pub movement-meaning-unique : Unique 0 movement-meaning-kinds.ps movement-meaning-kinds.r movement-meaning.Post
+movement-meaning-unique κs a x y s t p q = p ∙ sym q
 
 pub meant-unique : Unique 0 meant-kinds.ps meant-kinds.r meant.Post
 meant-unique κs a x y s t p q = p ∙ sym q

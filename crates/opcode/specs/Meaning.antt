@@ -1,14 +1,16 @@
--- Document 01, "Frames": the opcodes of each type, and the command or query that each means. Any other byte is ignored.
+-- Document 01, "Frames", with M-100: the opcodes of each type, and the command or query that each means. Any other byte is ignored.
 -- Assumes nothing.
 use Prim.Native.Nat.{ℕ}
-use Rattle.opcode.specs.declared.Command.the-variants.{Disable, Enable, SetDeadtime, SetFilter, SetHysteresis, SetHysteresisMin, SetPriority, SetReport}
+use Rattle.opcode.specs.declared.Command.the-variants.{Disable, Enable, SetDeadtime, SetFilter, SetHold, SetHysteresis, SetHysteresisMin, SetPriority, SetReport}
 use Rattle.opcode.specs.declared.Command.{Command}
-use Rattle.opcode.specs.declared.Meaning.the-variants.{Ask, Ignored, Set}
+use Rattle.opcode.specs.declared.Control.the-variants.{CancelHold, CatchMovement}
+use Rattle.opcode.specs.declared.Control.{Control}
+use Rattle.opcode.specs.declared.Meaning.the-variants.{Act, Ask, Ignored, Set}
 use Rattle.opcode.specs.declared.Meaning.{Meaning}
 use Rattle.opcode.specs.declared.Query.the-variants.{QueryNext, QueryValue, QueryVariable}
 use Rattle.opcode.specs.declared.Query.{Query}
-use Rattle.opcode.specs.declared.Variable.the-variants.{Deadtime, Enabled, Error, Filter, Hysteresis, HysteresisMin, Priority, Report, Resolution, SensorType, Status}
-use Rattle.sensor.specs.declared.kind.Kind.the-variants.{Light, Occupancy}
+use Rattle.opcode.specs.declared.Variable.the-variants.{Catching, Deadtime, Enabled, Error, Filter, Hold, Hysteresis, HysteresisMin, Priority, Report, Resolution, SensorType, Status}
+use Rattle.sensor.specs.declared.kind.Kind.the-variants.{Light, Movement, Occupancy}
 use Rattle.sensor.specs.declared.kind.Kind.{Kind}
 use lib.Dec.{eqb}
 use mathlib.Core.Bool.{Bool, cond, false, true}
@@ -25,8 +27,11 @@ sets n command = record { opcode = n; means = Set command }
 abbrev pub asks : (opcode : ℕ) → Query → Case
 asks n query = record { opcode = n; means = Ask query }
 
+abbrev pub acts : (opcode : ℕ) → Control → Case
+acts n control = record { opcode = n; means = Act control }
+
 -- ---- the tables
--- both types
+-- both types, and so movement, which is of type 3
 abbrev pub bothCases : List Case
 bothCases =
     sets 0x61 SetPriority
@@ -66,6 +71,20 @@ occupancyCases =
     ∷ asks 0x2E (QueryVariable Report)
     ∷ bothCases
 
+-- movement (M-100; IEC 62386-303, Table 10)
+abbrev pub movementCases : List Case
+movementCases =
+    acts 0x20 CatchMovement
+    ∷ sets 0x21 SetHold
+    ∷ sets 0x22 SetReport
+    ∷ sets 0x23 SetDeadtime
+    ∷ acts 0x24 CancelHold
+    ∷ asks 0x2C (QueryVariable Deadtime)
+    ∷ asks 0x2D (QueryVariable Hold)
+    ∷ asks 0x2E (QueryVariable Report)
+    ∷ asks 0x2F (QueryVariable Catching)
+    ∷ bothCases
+
 -- ---- what byte 3 means
 -- the row of a table whose opcode is n: the first; where there is none it is ignored
 unfoldable pub meantIn : List Case → (n : ℕ) → Meaning
@@ -78,12 +97,24 @@ lightMeaning n = meantIn lightCases n
 unfoldable pub occupancyMeaning : (n : ℕ) → Meaning
 occupancyMeaning n = meantIn occupancyCases n
 
+unfoldable pub movementMeaning : (n : ℕ) → Meaning
+movementMeaning n = meantIn movementCases n
+
 unfoldable pub meant : Kind → (n : ℕ) → Meaning
 meant (Light l) n = lightMeaning n
 meant (Occupancy o) n = occupancyMeaning n
+meant (Movement m) n = movementMeaning n
 
--- a setting command: 61, 62, 63, 68 and the set opcodes 30 to 33 (light) and 22, 23 (occupancy)
+-- a setting command: 61, 62, 63, 68 and the set opcodes 30 to 33 (light) and 22, 23 (occupancy), with 21 (movement)
 unfoldable pub isSetting : Meaning → Bool
 isSetting (Set command) = true
+isSetting (Act control) = false
 isSetting (Ask query) = false
 isSetting Ignored = false
+
+-- a control instruction: 20, 24 (movement)
+unfoldable pub isControl : Meaning → Bool
+isControl (Set command) = false
+isControl (Act control) = true
+isControl (Ask query) = false
+isControl Ignored = false

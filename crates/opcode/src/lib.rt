@@ -1,9 +1,10 @@
 // The command or query that byte 3 of a frame means (document 01, "Frames"): one decision for each type, by the opcodes that the type carries and
-// those that both have, in the order of the type's table in specs/Meaning.antt.
+// those that all have, in the order of the type's table in specs/Meaning.antt.
 use sensor::Kind;
 use sensor::Light;
+use sensor::Movement;
 use sensor::Occupancy;
-ghost use Rattle.opcode.specs.Meaning.{lightMeaning, meant, occupancyMeaning};
+ghost use Rattle.opcode.specs.Meaning.{lightMeaning, meant, movementMeaning, occupancyMeaning};
 ghost use mathlib.Core.Path.{_≡_};
 
 // The setting commands of all types. The proofs name those that an arm `_` takes in this order.
@@ -16,6 +17,13 @@ pub enum Command {
     SetDeadtime,
     SetHysteresis,
     SetHysteresisMin,
+    SetHold,
+}
+
+// The instance control instructions: they act, and set nothing (M-100).
+pub enum Control {
+    CatchMovement,
+    CancelHold,
 }
 
 // What an instance is asked for that has one byte, or no answer, and latches nothing.
@@ -31,6 +39,8 @@ pub enum Variable {
     Deadtime,
     Hysteresis,
     HysteresisMin,
+    Hold,
+    Catching,
 }
 
 // The queries of all types: a variable; inputValue, whose top byte is answered; and the next of its bytes.
@@ -42,6 +52,7 @@ pub enum Query {
 
 pub enum Meaning {
     Set(Command),
+    Act(Control),
     Ask(Query),
     Ignored,
 }
@@ -114,6 +125,43 @@ pub fn occupancy_meaning(opcode: u8) -> Meaning
     }
 }
 
+pub fn movement_meaning(opcode: u8) -> Meaning
+    ensures { λ r. ⌜ r ≡ movementMeaning opcode ⌝ }
+{
+    match opcode {
+        Movement::CATCH => Meaning::Act(Control::CatchMovement),
+        Movement::SET_HOLD => Meaning::Set(Command::SetHold),
+        Occupancy::SET_REPORT => Meaning::Set(Command::SetReport),
+        Occupancy::SET_DEADTIME => Meaning::Set(Command::SetDeadtime),
+        Movement::CANCEL_HOLD => Meaning::Act(Control::CancelHold),
+        Occupancy::QUERY_DEADTIME => Meaning::Ask(Query::QueryVariable(Variable::Deadtime)),
+        Movement::QUERY_HOLD => Meaning::Ask(Query::QueryVariable(Variable::Hold)),
+        Occupancy::QUERY_REPORT => Meaning::Ask(Query::QueryVariable(Variable::Report)),
+        Movement::QUERY_CATCHING => Meaning::Ask(Query::QueryVariable(Variable::Catching)),
+        Kind::SET_PRIORITY => Meaning::Set(Command::SetPriority),
+        Kind::ENABLE => Meaning::Set(Command::Enable),
+        Kind::DISABLE => Meaning::Set(Command::Disable),
+        Kind::SET_FILTER => Meaning::Set(Command::SetFilter),
+        Kind::QUERY_TYPE => Meaning::Ask(Query::QueryVariable(Variable::SensorType)),
+        Kind::QUERY_RESOLUTION => Meaning::Ask(Query::QueryVariable(Variable::Resolution)),
+        Kind::QUERY_ERROR => Meaning::Ask(Query::QueryVariable(Variable::Error)),
+        Kind::QUERY_STATUS => Meaning::Ask(Query::QueryVariable(Variable::Status)),
+        Kind::QUERY_PRIORITY => Meaning::Ask(Query::QueryVariable(Variable::Priority)),
+        Kind::QUERY_ENABLED => Meaning::Ask(Query::QueryVariable(Variable::Enabled)),
+        Kind::QUERY_VALUE => Meaning::Ask(Query::QueryValue),
+        Kind::QUERY_NEXT => Meaning::Ask(Query::QueryNext),
+        Kind::QUERY_FILTER => Meaning::Ask(Query::QueryVariable(Variable::Filter)),
+        0x00..=0x1F
+        | 0x25..=0x2B
+        | 0x30..=0x60
+        | 0x64..=0x67
+        | 0x69..=0x7F
+        | 0x85..=0x8B
+        | 0x8E..=0x8F
+        | 0x91..=0xFF => Meaning::Ignored,
+    }
+}
+
 // The decision of the instance's own type.
 pub fn meant(kind: Kind, opcode: u8) -> Meaning
     ensures { λ r. ⌜ r ≡ meant kind opcode ⌝ }
@@ -121,5 +169,6 @@ pub fn meant(kind: Kind, opcode: u8) -> Meaning
     match kind {
         Kind::Light(_) => light_meaning(opcode),
         Kind::Occupancy(_) => occupancy_meaning(opcode),
+        Kind::Movement(_) => movement_meaning(opcode),
     }
 }

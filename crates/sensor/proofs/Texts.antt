@@ -5,7 +5,7 @@ use Prim.Native.Nat.{ℕ, _*_, _-_, _<_, _^_}
 use Rattle.sensor.proofs.Laws.{both}
 use Rattle.sensor.specs.Fresh.{declared, fresh, lightFresh, movementFresh, occupancyFresh}
 use Rattle.sensor.specs.Instance.{withKind}
-use Rattle.sensor.specs.Kind.{allowing, allows, cause, information, input, kept, repeat, resolution, rules, sensorType, sent, taken, units}
+use Rattle.sensor.specs.Kind.{allowing, allows, cancelled, catching, caught, cause, information, input, kept, repeat, resolution, rules, sensorType, sent, taken, units}
 use Rattle.sensor.specs.Light.{compared, comparedBy, lightAllows, lightCause, lightInformation, lightInput, lightRepeat, lightSent, lightTaken, moved, outside, width, withBand}
 use Rattle.sensor.specs.Text.{InRange, Shows, Takes, asIN, kindAsIN, lightAsIN, wholeBytes}
 use Rattle.sensor.specs.Tick.{closed, decisionAt, holding, kindAfter, sentAfter, takenKind, ticked}
@@ -155,6 +155,24 @@ unfolding allowing
 allowing-as (kinds.Light l) allowed = refl
 allowing-as (kinds.Occupancy o) allowed = refl
 allowing-as (kinds.Movement m) allowed = refl
+
+pub caught-as : (k : Kind) (s : Settings) → caught (kindAsIN k) s ≡ kindAsIN (caught k s)
+unfolding caught
+caught-as (kinds.Light l) s = refl
+caught-as (kinds.Occupancy o) s = refl
+caught-as (kinds.Movement m) s = refl
+
+pub cancelled-as : (k : Kind) → cancelled (kindAsIN k) ≡ kindAsIN (cancelled k)
+unfolding cancelled
+cancelled-as (kinds.Light l) = refl
+cancelled-as (kinds.Occupancy o) = refl
+cancelled-as (kinds.Movement m) = refl
+
+pub catching-as : (k : Kind) → catching (kindAsIN k) ≡ catching k
+unfolding catching
+catching-as (kinds.Light l) = refl
+catching-as (kinds.Occupancy o) = refl
+catching-as (kinds.Movement m) = refl
 
 -- ---- THE RANGE is kept
 sent-shows : (k : Kind) (s : Settings) → Shows k → Shows (sent k s)

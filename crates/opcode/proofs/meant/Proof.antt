@@ -17,6 +17,12 @@ enum-told-2 c = search needs
 occupancy-meaning-requires : tie.Need-occupancy-meaning-requires
 occupancy-meaning-requires c κs = search needs
 
+enum-told-3 : tie.Need-enum-told-3
+enum-told-3 c = search needs
+
+movement-meaning-requires : tie.Need-movement-meaning-requires
+movement-meaning-requires c κs = search needs
+
 returns : tie.Need-returns
 unfolding meant
 returns c = rw (c .before .enum-told .given .1) (c .light-meaning .ensures)
@@ -24,6 +30,10 @@ returns c = rw (c .before .enum-told .given .1) (c .light-meaning .ensures)
 returns-2 : tie.Need-returns-2
 unfolding meant
 returns-2 c = rw (c .before .enum-told2 .given .1) (c .occupancy-meaning .ensures)
+
+returns-3 : tie.Need-returns-3
+unfolding meant
+returns-3 c = rw (c .before .enum-told3 .given .1) (c .movement-meaning .ensures)
 
 pub meant-spec : {M : Type 1} → statement M
 meant-spec =
@@ -33,5 +43,8 @@ meant-spec =
     light-meaning-requires
     enum-told-2
     occupancy-meaning-requires
+    enum-told-3
+    movement-meaning-requires
     returns
-    returns-2)
+    returns-2
+    returns-3)

@@ -53,6 +53,18 @@ enum-told-10 c = search needs
 enum-told-11 : tie.Need-enum-told-11
 enum-told-11 c = search needs
 
+enum-told-12 : tie.Need-enum-told-12
+enum-told-12 c = search needs
+
+enum-told-13 : tie.Need-enum-told-13
+enum-told-13 c = search needs
+
+catching-requires : tie.Need-catching-requires
+catching-requires c κs = search needs
+
+only-if-requires-3 : tie.Need-only-if-requires-3
+only-if-requires-3 c κs = search needs
+
 returns : tie.Need-returns
 unfolding valueOf
 returns c = rw (c .before .enum-told .given .1, c .sensor-type .ensures)
@@ -97,6 +109,14 @@ returns-11 : tie.Need-returns-11
 unfolding valueOf
 returns-11 c = rw (c .enum-told11 .given .1)
 
+returns-12 : tie.Need-returns-12
+unfolding valueOf
+returns-12 c = rw (c .enum-told12 .given .1)
+
+returns-13 : tie.Need-returns-13
+unfolding valueOf
+returns-13 c = rw (c .before .before .enum-told13 .given .1, c .only-if3 .ensures, c .before .catching .ensures)
+
 pub value-of-spec : {M : Type 1} → statement M
 value-of-spec =
     tie.close
@@ -117,6 +137,10 @@ value-of-spec =
     enum-told-9
     enum-told-10
     enum-told-11
+    enum-told-12
+    enum-told-13
+    catching-requires
+    only-if-requires-3
     returns
     returns-2
     returns-3
@@ -127,4 +151,6 @@ value-of-spec =
     returns-8
     returns-9
     returns-10
-    returns-11)
+    returns-11
+    returns-12
+    returns-13)

@@ -53,6 +53,12 @@ enum-told-8 c = search needs
 with-minimum-requires : tie.Need-with-minimum-requires
 with-minimum-requires c κs = search needs
 
+enum-told-9 : tie.Need-enum-told-9
+enum-told-9 c = search needs
+
+bounded-hold-requires : tie.Need-bounded-hold-requires
+bounded-hold-requires c κs = search needs
+
 returns : tie.Need-returns
 unfolding changed
 returns c = rw (c .before .enum-told .given .1) (c .bounded-priority .ensures)
@@ -85,6 +91,10 @@ returns-8 : tie.Need-returns-8
 unfolding changed
 returns-8 c = rw (c .before .enum-told8 .given .1) (c .with-minimum .ensures)
 
+returns-9 : tie.Need-returns-9
+unfolding changed
+returns-9 c = rw (c .before .enum-told9 .given .1) (c .bounded-hold .ensures)
+
 pub changed-spec : {M : Type 1} → statement M
 changed-spec =
     tie.close
@@ -105,6 +115,8 @@ changed-spec =
     bounded-hysteresis-requires
     enum-told-8
     with-minimum-requires
+    enum-told-9
+    bounded-hold-requires
     returns
     returns-2
     returns-3
@@ -112,4 +124,5 @@ changed-spec =
     returns-5
     returns-6
     returns-7
-    returns-8)
+    returns-8
+    returns-9)
