@@ -2,7 +2,7 @@
 -- Assumes nothing.
 use Prim.Native.Nat.{ℕ, _<_, _≤_}
 use Rattle.command.specs.Answering.{ButLatch, acted, actedBy, answered, latched, queried}
-use Rattle.command.specs.Controlling.{ButHoldAndCatching, controlled, controlledKind}
+use Rattle.command.specs.Controlling.{ButControl, ButHoldAndCatching, controlled, controlledKind}
 use Rattle.command.specs.Setting.{blockChanged, boundedHysteresis, boundedPriority, changed, filtered, obeyed, retimed, retimedDead, retimedReport}
 use Rattle.command.specs.declared.answering.Answer.the-variants.{None}
 use Rattle.opcode.specs.Meaning.{isControl, isSetting, meant}
@@ -69,9 +69,17 @@ control-kind (Occupancy o) CancelHold s = refl
 control-kind (Movement m) CatchMovement s = (m .hold, _, refl)
 control-kind (Movement m) CancelHold s = (_, m .catching, refl)
 
-pub control-changes : (x : Instance) (c : Control) → ButHoldAndCatching (x .kind) (controlled x c .kind) × (controlled x c ≡ withKind (controlled x c .kind) x)
+pub control-changes : (x : Instance) (c : Control) → ButControl x (controlled x c)
 unfolding controlled
 control-changes x c = (control-kind (x .kind) c (x .settings), refl)
+
+pub changes-nothing : (x : Instance) → ButControl x x
+changes-nothing x = (go (x .kind), refl)
+  where
+    go : (k : Kind) → ButHoldAndCatching k k
+    go (Light l) = refl
+    go (Occupancy o) = refl
+    go (Movement m) = (m .hold, m .catching, refl)
 
 pub acts-so : (x : Instance) (opcode dtr0 : ℕ) (c : Control) → meant (x .kind) opcode ≡ Act c
     → acted x opcode dtr0 ≡ record { instance = controlled x c; answer = None }

@@ -25,3 +25,7 @@ abbrev pub ButHoldAndCatching : (k k′ : Kind) → Type 0
 ButHoldAndCatching (Light l) k′ = k′ ≡ Light l
 ButHoldAndCatching (Occupancy o) k′ = k′ ≡ Occupancy o
 ButHoldAndCatching (Movement m) k′ = (left : ℕ) × (catching : Bool) × (k′ ≡ Movement (withHoldLeft left (withCatching catching m)))
+
+-- and y is x but for these
+abbrev pub ButControl : (x y : Instance) → Type 0
+ButControl x y = ButHoldAndCatching (x .kind) (y .kind) × (y ≡ withKind (y .kind) x)

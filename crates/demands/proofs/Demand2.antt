@@ -8,25 +8,30 @@ mod FourKinds
 mod FullSessionRead
 mod RecordTaken
 use Prim.Native.Nat.{ℕ, _+_, _≤_}
+use Rattle.command.proofs.Laws.{acts-so, calm-keeps, changes-nothing, control-changes}
 use Rattle.command.proofs.Measured.{act-unread}
 use Rattle.command.specs.Answering.{ButLatch, acted}
+use Rattle.command.specs.Controlling.{ButControl}
 use Rattle.demands.proofs.Demand2.FourKinds.{front-known}
 use Rattle.demands.proofs.Demand2.FullSessionRead.{whole}
 use Rattle.demands.proofs.Demand2.RecordTaken.{taken-behind}
 use Rattle.demands.proofs.Shared.EventsInLog.{events-tick}
 use Rattle.demands.proofs.Shared.FullSession.{full, fullLog, numbers}
-use Rattle.demands.proofs.Shared.OneInstance.{dtr0-kept, frame-latch, happen-tick, ticked-own}
+use Rattle.demands.proofs.Shared.OneInstance.{dtr0-kept, frame-own, happen-tick, ticked-own}
 use Rattle.demands.proofs.Shared.Runs.{session-log, session-model}
 use Rattle.demands.specs.Alone.{Present, loadsDtr0, rises}
 use Rattle.demands.specs.Happenings.{Happening, carried, happen, logAfter, modelAfter}
 use Rattle.demands.specs.Numbers.{Front, NoneGiven}
 use Rattle.demands.specs.Stands.{roomAfter}
 use Rattle.demands.specs.Window.{eventsOf}
+use Rattle.device.proofs.Instances.{alike}
 use Rattle.device.proofs.Laws.{declared-other, frame-ignored, frame-other, held-other}
 use Rattle.device.specs.Device.{declaredModel, fresh, heldModel, instanceAt, underWay, withDtr0}
 use Rattle.device.specs.Frame.{counts, frameLog, frameModel, loads}
 use Rattle.device.specs.declared.model.Model.{Model}
-use Rattle.opcode.specs.Meaning.{isSetting, meant}
+use Rattle.opcode.specs.Meaning.{isControl, isSetting, meant}
+use Rattle.opcode.specs.declared.Control.{Control}
+use Rattle.opcode.specs.declared.Meaning.the-variants.{Act}
 use Rattle.record.specs.Log.{AN, AllBytes, EV, bytesOf}
 use Rattle.sensor.proofs.Measured.{tick-unread}
 use Rattle.sensor.specs.Instance.{withMeasured}
@@ -38,7 +43,6 @@ use Rattle.session.specs.Session.{End, session, forC}
 use Rattle.ticks.proofs.Ticked.{tick-past}
 use Rattle.ticks.specs.Tick.{tickLog, tickModel}
 use Rattle.timers.specs.Pace.{noted}
-use borrow.Author.Tests.{eq-eqb}
 use lib.ListN.{length, take}
 use mathlib.Core.Bool.{Bool, false, true}
 use mathlib.Core.List.{List, [], _++_, _∷_}
@@ -91,10 +95,20 @@ module _ (m : Model) where
       → (frameModel m first second third ≡ underWay m) × (frameLog m first second third ≡ [])
   ignored-alone first second third l c = frame-ignored m first second third l c
 
-  -- a frame that counts, and means no setting command to its instance (a query, or no opcode of its type), changes at most its latch
-  pub query-alone : (first second third : ℕ) → counts m first second ≡ true → isSetting (meant (instanceAt m second .kind) third) ≡ false
+  -- a frame that means neither a setting command nor a control instruction to its instance (a query, or no opcode of its type) changes at most its
+  -- latch
+  pub query-alone : (first second third : ℕ) → isSetting (meant (instanceAt m second .kind) third) ≡ false
+      → isControl (meant (instanceAt m second .kind) third) ≡ false
       → ButLatch (instanceAt m second) (instanceAt (frameModel m first second third) second)
-  query-alone first second third c e = frame-latch second m first second third (rw (c, e, eq-eqb second second refl))
+  query-alone first second third e f =
+      frame-own (ButLatch (instanceAt m second)) second m first second third (alike refl) (λ n q. calm-keeps (instanceAt m second) third (m .dtr0) e f)
+
+  -- M-100: a control instruction, catch or cancel, changes at most catching and the hold timer of a movement sensor
+  pub control-alone : (first second third : ℕ) (c : Control) → meant (instanceAt m second .kind) third ≡ Act c
+      → ButControl (instanceAt m second) (instanceAt (frameModel m first second third) second)
+  control-alone first second third c e =
+      frame-own (ButControl (instanceAt m second)) second m first second third (changes-nothing (instanceAt m second))
+      (λ n q. rw (acts-so (instanceAt m second) third (m .dtr0) c e) (control-changes (instanceAt m second) c))
 
   -- the tick number is changed by a tick alone, by 1, and DTR0 by its load alone
   pub tick-number : (h : Happening) → happen m h .tick ≡ m .tick + rises h

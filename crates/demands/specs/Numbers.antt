@@ -16,7 +16,7 @@ use Rattle.record.specs.Marks.{markSize}
 use Rattle.record.specs.Numbers.{byte, word}
 use Rattle.record.specs.declared.marks.Mark.the-variants.{Bus, Declaration, Measurement, Time}
 use Rattle.sensor.specs.declared.instance.Instance.{Instance}
-use Rattle.sensor.specs.declared.kind.Kind.the-variants.{Light, Occupancy}
+use Rattle.sensor.specs.declared.kind.Kind.the-variants.{Light, Movement, Occupancy}
 use Rattle.sensor.specs.declared.kind.Kind.{Kind}
 use Rattle.sensor.specs.declared.sensors.Sensor.the-variants as sensors
 use Rattle.sensor.specs.declared.sensors.Sensor.{Sensor}
@@ -40,9 +40,12 @@ IN rest = Marked marks.IN rest
 abbrev pub LO : List ℕ → Type 0
 LO rest = Marked marks.LO rest
 
--- M-107: IN and LO are one kind of record
+abbrev pub IM : List ℕ → Type 0
+IM rest = Marked marks.IM rest
+
+-- M-107, M-100: IN, LO and IM are one kind of record
 abbrev pub Declaring : List ℕ → Type 0
-Declaring rest = IN rest ⊎ LO rest
+Declaring rest = IN rest ⊎ LO rest ⊎ IM rest
 
 abbrev pub SA : List ℕ → Type 0
 SA rest = Marked marks.SA rest
@@ -58,10 +61,11 @@ abbrev pub Names : List ℕ → Sensor → Type 0
 Names rest sensors.Occupancy = IN rest × (byte rest 3 ≡ 3) × (byte rest 4 ≡ 2)
 Names rest (sensors.Light resolution) = IN rest × (byte rest 3 ≡ 4) × (byte rest 4 ≡ resolution) × (1 ≤ resolution) × (resolution ≤ 24)
 Names rest (sensors.LightOf2017 resolution) = LO rest × (byte rest 3 ≡ 4) × (byte rest 4 ≡ resolution) × (1 ≤ resolution) × (resolution ≤ 24)
+Names rest sensors.Movement = IM rest × (byte rest 3 ≡ 3) × (byte rest 4 ≡ 2)
 
 -- ---- the four kinds: the record at the front of `rest` by its mark, its size, and what it tells of
 pub data Front (rest : List ℕ) : (size : ℕ) → List Happening → Type 0 where
-  -- IN, LO: instance number, type, resolution
+  -- IN, LO, IM: instance number, type, resolution
   declares : (sensor : Sensor) → Names rest sensor → Front rest (markSize Declaration) (declare sensor ∷ [])
   -- SA: instance, status, value (3 bytes)
   holds : SA rest → Front rest (markSize Measurement) (hold (byte rest 2) (sampleIn rest) ∷ [])
@@ -75,12 +79,13 @@ pub data Front (rest : List ℕ) : (size : ℕ) → List Happening → Type 0 wh
 abbrev pub Late : List ℕ → Model → Type 0
 Late rest m = (m .running ≡ true) ⊎ (byte rest 2 ≢ m .declared)
 
--- "IN number 16 or above; type not 3 or 4; type 3 with resolution not 2; type 4 with resolution outside 1 to 24"; and M-107: "LO obeys refusals 3
--- and 4 as IN, any type but 4 being 4"
+-- "IN number 16 or above; type not 3 or 4; type 3 with resolution not 2; type 4 with resolution outside 1 to 24"; M-107: "LO obeys refusals 3
+-- and 4 as IN, any type but 4 being 4"; M-100: "IM counts as IN in refusals 3 and 4, any type but 3 being 4"
 abbrev pub NoSensor : List ℕ → Type 0
 NoSensor rest =
     (16 ≤ byte rest 2)
-    ⊎ (IN rest × (byte rest 3 ≢ 3) × (byte rest 3 ≢ 4)) ⊎ (IN rest × (byte rest 3 ≡ 3) × (byte rest 4 ≢ 2)) ⊎ (LO rest × (byte rest 3 ≢ 4))
+    ⊎ (IN rest × (byte rest 3 ≢ 3) × (byte rest 3 ≢ 4)) ⊎ (LO rest × (byte rest 3 ≢ 4)) ⊎ (IM rest × (byte rest 3 ≢ 3))
+    ⊎ ((byte rest 3 ≡ 3) × (byte rest 4 ≢ 2))
     ⊎ ((byte rest 3 ≡ 4) × ((byte rest 4 < 1) ⊎ (24 < byte rest 4)))
 
 -- an instance that is declared; there are at most sixteen
@@ -88,12 +93,13 @@ abbrev pub Declared : Model → (i : ℕ) → Type 0
 Declared m i = (i < m .declared) × (i < 16)
 
 -- "Sample status: 0 valid, 1 not ready (type 4 only), 2 physical failure. Light value with status 0: 0 to 2^resolution - 2. Occupancy: 0 to 3.
--- With status 1 or 2 the value must be 0."
+-- With status 1 or 2 the value must be 0." And M-100: "bit 1 of a movement sample is number 6"
 abbrev pub Allowed : Kind → Sample → Type 0
 Allowed (Light l) sample =
     ((sample .status ≡ 0) × (sample .value + 2 ≤ 2 ^ (l .resolution)))
     ⊎ ((sample .status ≡ 1) × (sample .value ≡ 0)) ⊎ ((sample .status ≡ 2) × (sample .value ≡ 0))
 Allowed (Occupancy o) sample = ((sample .status ≡ 0) × (sample .value ≤ 3)) ⊎ ((sample .status ≡ 2) × (sample .value ≡ 0))
+Allowed (Movement m) sample = ((sample .status ≡ 0) × (sample .value ≤ 1)) ⊎ ((sample .status ≡ 2) × (sample .value ≡ 0))
 
 -- M-110: "status 1 after a valid sample .. a failure between or not"
 abbrev pub GoesBack : Instance → Sample → Type 0
@@ -114,13 +120,13 @@ measuredIn i (h ∷ hs) = measures i h || measuredIn i hs
 -- ---- the table: the record at the front of `rest` is refused so, in a device m
 abbrev pub Given : Refusal → List ℕ → Model → Type 0
 -- 1: mark unknown
-Given UnknownMark rest m = (2 ≤ length rest) × (IN rest → ⊥) × (LO rest → ⊥) × (SA rest → ⊥) × (FR rest → ⊥) × (TK rest → ⊥)
+Given UnknownMark rest m = (2 ≤ length rest) × (IN rest → ⊥) × (LO rest → ⊥) × (IM rest → ⊥) × (SA rest → ⊥) × (FR rest → ⊥) × (TK rest → ⊥)
 -- 2: fewer bytes remain than the mark, or the record, needs
 Given Cut rest m =
     (length rest < 2)
     ⊎ (Declaring rest × (length rest < markSize Declaration)) ⊎ (SA rest × (length rest < markSize Measurement))
     ⊎ (FR rest × (length rest < markSize Bus)) ⊎ (TK rest × (length rest < markSize Time))
--- 3: IN or LO after a record of another kind, or its number isn't the next, from 0
+-- 3: IN, LO or IM after a record of another kind, or its number isn't the next, from 0
 Given LateOrSkipped rest m = Declaring rest × (markSize Declaration ≤ length rest) × Late rest m
 -- 4: no such sensor
 Given NoSuchSensor rest m = Declaring rest × (markSize Declaration ≤ length rest) × (Late rest m → ⊥) × NoSensor rest

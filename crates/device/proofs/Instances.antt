@@ -1,7 +1,6 @@
 -- One instance of any device, whether it has sixteen or not: a sample, a declaration, a frame; and how much a frame logs.
 -- Assumes nothing.
 use Prim.Native.Nat.{ℕ, _<_, _≤_}
-use Rattle.command.proofs.Laws.{calm-keeps}
 use Rattle.command.proofs.Measured.{act-measured}
 use Rattle.command.specs.Answering.{ButLatch}
 use Rattle.command.specs.declared.answering.Answer.the-variants.{Byte, None}
@@ -10,7 +9,6 @@ use Rattle.device.proofs.Laws.{declared-full, declared-next, frame-by, 
 use Rattle.device.specs.Device.{declaredModel, heldModel, instanceAt}
 use Rattle.device.specs.Frame.{actedAt, answerLog, counts, frameLog, frameModel, loads, numberedLog, numberedModel}
 use Rattle.device.specs.declared.model.Model.{Model}
-use Rattle.opcode.specs.Meaning.{isSetting, meant}
 use Rattle.record.specs.Log.{answerSize, bytesOf, encoded}
 use Rattle.sensor.specs.Fresh as sensors
 use Rattle.sensor.specs.Instance.{withLatch}
@@ -44,18 +42,13 @@ pub alike : {x y : Instance} → y ≡ x → ButLatch x y
 alike {x} e = e ∙ ap (λ z. withLatch (z .latch) x) (sym e)
 
 -- the instance is as byte 3 leaves it or, where the device has no place for it, as it was
-numbered-by : (P : Instance → Type 0) (m : Model) (i opcode : ℕ) → P (instanceAt m i) → P (actedAt m i opcode .instance) → P (instanceAt (numberedModel m i opcode) i)
+pub numbered-by : (P : Instance → Type 0) (m : Model) (i opcode : ℕ) → P (instanceAt m i) → P (actedAt m i opcode .instance) → P (instanceAt (numberedModel m i opcode) i)
 unfolding numberedModel instanceAt
 numbered-by P m i opcode was acts = go (decLt i (length (m .instances)))
   where
     go : Dec (i < length (m .instances)) → P (instanceAt (numberedModel m i opcode) i)
     go (yes h) = rw (getD-set-same (m .instances) i (actedAt m i opcode .instance) sensors.blank h) acts
     go (no h) = let out : length (m .instances) ≤ i = omega arith in rw (set-out (m .instances) i (actedAt m i opcode .instance) out) was
-
--- what means no setting command to its instance changes at most the latch
-pub numbered-latch : (m : Model) (i opcode : ℕ) → isSetting (meant (instanceAt m i .kind) opcode) ≡ false
-    → ButLatch (instanceAt m i) (instanceAt (numberedModel m i opcode) i)
-numbered-latch m i opcode e = numbered-by (ButLatch (instanceAt m i)) m i opcode (alike refl) (calm-keeps (instanceAt m i) opcode (m .dtr0) e)
 
 -- M-110: no frame changes whether an instance has had a valid sample
 pub frame-measured : (m : Model) (first second third i : ℕ) → instanceAt (frameModel m first second third) i .measured ≡ instanceAt m i .measured

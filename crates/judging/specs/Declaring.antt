@@ -1,10 +1,10 @@
--- Document 01, "Session and log records" and number 4, with M-107: what a declaration declares, decided once from its mark, its type and its resolution.
+-- Document 01, "Session and log records" and number 4, with M-107 and M-100: what a declaration declares, decided once from its mark, its type and its resolution.
 -- Assumes nothing.
 use Prim.Native.Nat.{ℕ}
 use Rattle.judging.specs.declared.declaring.Declares.the-variants.{Nothing, One}
 use Rattle.judging.specs.declared.declaring.Declares.{Declares}
-use Rattle.record.specs.Marks.{IN, LO}
-use Rattle.sensor.specs.declared.sensors.Sensor.the-variants.{Light, LightOf2017, Occupancy}
+use Rattle.record.specs.Marks.{IM, IN, LO}
+use Rattle.sensor.specs.declared.sensors.Sensor.the-variants.{Light, LightOf2017, Movement, Occupancy}
 use lib.Dec.{eqb, leb}
 use mathlib.Core.Bool.{Bool, cond, _&&_}
 
@@ -22,5 +22,11 @@ inDeclares type resolution =
 unfoldable pub loDeclares : (type resolution : ℕ) → Declares
 loDeclares type resolution = cond (eqb type 4 && lightHas resolution) (One (LightOf2017 resolution)) Nothing
 
+-- M-100, IM: type 3 alone
+unfoldable pub imDeclares : (type resolution : ℕ) → Declares
+imDeclares type resolution = cond (eqb type 3 && eqb resolution 2) (One Movement) Nothing
+
 unfoldable pub declaredBy : (letters type resolution : ℕ) → Declares
-declaredBy letters type resolution = cond (eqb letters IN) (inDeclares type resolution) (cond (eqb letters LO) (loDeclares type resolution) Nothing)
+declaredBy letters type resolution =
+    cond (eqb letters IN) (inDeclares type resolution)
+    (cond (eqb letters LO) (loDeclares type resolution) (cond (eqb letters IM) (imDeclares type resolution) Nothing))

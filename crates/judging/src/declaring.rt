@@ -3,7 +3,7 @@ use record::Mark;
 use sensor::Light;
 use sensor::Occupancy;
 use sensor::Sensor;
-ghost use Rattle.judging.specs.Declaring.{declaredBy, inDeclares, lightHas, loDeclares};
+ghost use Rattle.judging.specs.Declaring.{declaredBy, imDeclares, inDeclares, lightHas, loDeclares};
 ghost use mathlib.Core.Path.{_≡_};
 
 // A sensor, or none that is modelled.
@@ -18,6 +18,7 @@ pub fn declared_by(letters: u16, sensor_type: u8, resolution: u8) -> Declares
     match letters {
         Mark::IN => in_declares(sensor_type, resolution),
         Mark::LO => lo_declares(sensor_type, resolution),
+        Mark::IM => im_declares(sensor_type, resolution),
         _ => Declares::Nothing,
     }
 }
@@ -41,6 +42,16 @@ fn lo_declares(sensor_type: u8, resolution: u8) -> Declares
 {
     if (sensor_type == Light::TYPE) & light_has(resolution) {
         return Declares::One(Sensor::LightOf2017 { resolution });
+    }
+    Declares::Nothing
+}
+
+// Type 3 alone (M-100).
+fn im_declares(sensor_type: u8, resolution: u8) -> Declares
+    ensures { λ r. ⌜ r ≡ imDeclares «sensor_type» resolution ⌝ }
+{
+    if (sensor_type == Occupancy::TYPE) & (resolution == Occupancy::RESOLUTION) {
+        return Declares::One(Sensor::Movement);
     }
     Declares::Nothing
 }

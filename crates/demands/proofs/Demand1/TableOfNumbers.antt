@@ -1,6 +1,6 @@
 -- Each refusal but 9 is given exactly when its row of the table holds.
 -- Assumes nothing.
-use Prim.Native.Nat.{ℕ, _+_, _-_, _<_, _^_, _≤_}
+use Prim.Native.Nat.{ℕ, suc, _+_, _-_, _<_, _^_, _≤_}
 use Rattle.demands.proofs.Demand1.Tells.{Tells, fails, holds, tells-and, tells-as, tells-bool, tells-cond, tells-eqb, tells-leb, tells-ltb, tells-not, tells-or}
 use Rattle.demands.proofs.Shared.Declarations.{declared-none, none-declared}
 use Rattle.demands.proofs.Shared.Marks.{MarkIs, declaring-asked, fr-asked, mark-is, sa-asked, tk-asked, unknown-mark}
@@ -22,16 +22,17 @@ use Rattle.record.specs.declared.marks.Mark.the-variants.{Bus, Declaration, Mea
 use Rattle.record.specs.declared.marks.Mark.{Mark}
 use Rattle.sensor.specs.Kind.{allows}
 use Rattle.sensor.specs.Light.{lightAllows}
+use Rattle.sensor.specs.Movement.{movementAllows}
 use Rattle.sensor.specs.Occupancy.{occupancyAllows}
 use Rattle.sensor.specs.Tick.{goesBack}
 use Rattle.sensor.specs.declared.instance.Instance.{Instance}
-use Rattle.sensor.specs.declared.kind.Kind.the-variants.{Light, Occupancy}
+use Rattle.sensor.specs.declared.kind.Kind.the-variants.{Light, Movement, Occupancy}
 use Rattle.sensor.specs.declared.kind.Kind.{Kind}
 use Rattle.sensor.specs.declared.settings.Sample.{Sample}
 use borrow.Author.Tests.{eq-eqb, eqb-false, eqb-true, le-ltb, lt-ltb, ltb-false, ltb-true, ne-eqb}
 use lib.Dec.{eqb, ltb}
 use lib.ListN.{length}
-use mathlib.Core.Bool.{Bool, cond, false, not, true, _||_}
+use mathlib.Core.Bool.{Bool, cond, false, not, true, _&&_, _||_}
 use mathlib.Core.List.{List}
 use mathlib.Core.Logic.{inl, inr, _≢_, _⊎_}
 use mathlib.Core.Path.{ap, refl, subst, _∙_, _≡_}
@@ -46,8 +47,25 @@ known-tells : (m : Model) (i : ℕ) → Tells (known m i) (Declared m i)
 unfolding known
 known-tells m i = tells-and (tells-ltb i (m .declared)) (tells-ltb i 16)
 
+-- a value up to `most` with status 0, or 0 with status 2
+few-tells : (s : Sample) (most : ℕ)
+    → Tells (cond (eqb (s .status) 0) (ltb (s .value) (suc most)) (eqb (s .status) 2 && eqb (s .value) 0))
+    (((s .status ≡ 0) × (s .value ≤ most)) ⊎ ((s .status ≡ 2) × (s .value ≡ 0)))
+few-tells s most =
+    tells-as to from (tells-cond (tells-eqb (s .status) 0) (tells-ltb (s .value) (suc most)) (tells-and (tells-eqb (s .status) 2) (tells-eqb (s .value) 0)))
+  where
+    to : ((s .status ≡ 0) × (s .value < suc most)) ⊎ ((s .status ≢ 0) × ((s .status ≡ 2) × (s .value ≡ 0)))
+        → ((s .status ≡ 0) × (s .value ≤ most)) ⊎ ((s .status ≡ 2) × (s .value ≡ 0))
+    to (inl (a, b)) = inl (a, omega arith)
+    to (inr (a, (b, c))) = inr (b, c)
+
+    from : ((s .status ≡ 0) × (s .value ≤ most)) ⊎ ((s .status ≡ 2) × (s .value ≡ 0))
+        → ((s .status ≡ 0) × (s .value < suc most)) ⊎ ((s .status ≢ 0) × ((s .status ≡ 2) × (s .value ≡ 0)))
+    from (inl (a, b)) = inl (a, omega arith)
+    from (inr (a, b)) = inr (λ e. omega arith, (a, b))
+
 allows-tells : (k : Kind) (s : Sample) → Tells (allows k s) (Allowed k s)
-unfolding allows lightAllows occupancyAllows
+unfolding allows lightAllows movementAllows occupancyAllows
 allows-tells (Light l) s =
     tells-as to from
     (tells-cond (tells-eqb (s .status) 0) (tells-ltb (s .value) (2 ^ (l .resolution) - 1)) (tells-and (tells-leb (s .status) 2) (tells-eqb (s .value) 0)))
@@ -64,16 +82,8 @@ allows-tells (Light l) s =
     from (inl (a, b)) = inl (a, omega arith)
     from (inr (inl (a, b))) = inr (λ e. omega arith, (omega arith, b))
     from (inr (inr (a, b))) = inr (λ e. omega arith, (omega arith, b))
-allows-tells (Occupancy o) s =
-    tells-as to from (tells-cond (tells-eqb (s .status) 0) (tells-ltb (s .value) 4) (tells-and (tells-eqb (s .status) 2) (tells-eqb (s .value) 0)))
-  where
-    to : ((s .status ≡ 0) × (s .value < 4)) ⊎ ((s .status ≢ 0) × ((s .status ≡ 2) × (s .value ≡ 0))) → Allowed (Occupancy o) s
-    to (inl (a, b)) = inl (a, omega arith)
-    to (inr (a, (b, c))) = inr (b, c)
-
-    from : Allowed (Occupancy o) s → ((s .status ≡ 0) × (s .value < 4)) ⊎ ((s .status ≢ 0) × ((s .status ≡ 2) × (s .value ≡ 0)))
-    from (inl (a, b)) = inl (a, omega arith)
-    from (inr (a, b)) = inr (λ e. omega arith, (a, b))
+allows-tells (Occupancy o) s = few-tells s 3
+allows-tells (Movement m) s = few-tells s 1
 
 allowed-tells : (m : Model) (i : ℕ) (s : Sample) → Declared m i → Tells (allowed m i s) (Allowed (instanceAt m i .kind) s)
 unfolding allowed
@@ -95,7 +105,7 @@ module _ (rest : List ℕ) (m : Model) where
 
   pub given : AllBytes rest → (why : Refusal) → Given why rest m → asked rest m ≡ Refused why
   unfolding asked askedBy declareAsked sampleAsked frameAsked ticksAsked
-  given bytes UnknownMark (l, a, o, b, c, d) = marked rest m l ∙ rw (unknown-mark rest l (a, o, b, c, d))
+  given bytes UnknownMark (l, a, o, v, b, c, d) = marked rest m l ∙ rw (unknown-mark rest l (a, o, v, b, c, d))
   given bytes Cut (inl h) = rw (lt-ltb (length rest) 2 h)
   given bytes Cut (inr (inl (k, h))) = declaring-asked rest m k ∙ rw (lt-ltb (length rest) (markSize Declaration) h)
   given bytes Cut (inr (inr (inl (k, h)))) = sa-asked rest m k ∙ rw (lt-ltb (length rest) (markSize Measurement) h)
@@ -212,7 +222,7 @@ module _ (rest : List ℕ) (m : Model) where
   says bytes = go (ltb (length rest) 2) refl
     where
       by : (k : Mark) → 2 ≤ length rest → MarkIs k rest → Says (askedBy k rest m)
-      by Unknown l (a, o, b, c, d) = (l, a, o, b, c, d)
+      by Unknown l (a, o, v, b, c, d) = (l, a, o, v, b, c, d)
       by Declaration l k = declaring-says k
       by Measurement l k = sa-says k
       by Bus l k = fr-says k

@@ -51,7 +51,7 @@ module _ (zs : List ℕ) (m : Model) (bytes : AllBytes zs) (none : NoneGiven zs 
   front-known = go (decLt (length zs) 2)
     where
       by : 2 ≤ length zs → (k : Mark) → MarkIs k zs → (size : ℕ) × (hs : List Happening) × Front zs size hs
-      by l Unknown (a, o, b, c, d) = absurd (none UnknownMark (l, a, o, b, c, d))
+      by l Unknown (a, o, v, b, c, d) = absurd (none UnknownMark (l, a, o, v, b, c, d))
       by l Declaration k = (_, _, declares (sensor-there k .0) (sensor-there k .1))
       by l Measurement k = (_, _, holds k)
       by l Bus k = (_, _, frames k)

@@ -1,14 +1,16 @@
 -- What a run is to one instance, seen from its timers: so many ticks with some causes, and its events those that they let out.
 -- Assumes nothing.
 use Prim.Native.Nat.{ℕ, suc, _+_}
-use Rattle.command.specs.Answering.{ButLatch}
+use Rattle.command.proofs.Laws.{calm-untimed}
+use Rattle.command.specs.Answering.{acted}
 use Rattle.demands.proofs.Shared.EventsInLog.{events-append, events-frame, events-tick}
-use Rattle.demands.proofs.Shared.OneInstance.{frame-latch, happen-present, held-own, ticked-own}
+use Rattle.demands.proofs.Shared.OneInstance.{frame-own, happen-present, held-own, sets-none, ticked-own}
 use Rattle.demands.specs.Alone.{Present}
 use Rattle.demands.specs.Happenings.{Happening, declare, frame, happen, hold, logAfter, logs, tick, ticksIn}
 use Rattle.demands.specs.Window.{Undisturbed, eventsOf, rulesOf, setsIt}
 use Rattle.device.proofs.Laws.{declared-other, declared-tick, frame-tick, held-other, held-tick}
 use Rattle.device.specs.Device.{heldModel, instanceAt}
+use Rattle.device.specs.Frame.{counts}
 use Rattle.device.specs.declared.model.Model.{Model}
 use Rattle.record.specs.Log.{Logged}
 use Rattle.sensor.proofs.Laws.{decision-made, holding-keeps, rules-kept, sent-decided, ticked-timers}
@@ -40,9 +42,6 @@ record Same (x y : Instance) : Type 0 where
 same : {x y : Instance} → y ≡ x → Same x y
 same e = record { rules = ap rulesOf e; timers = ap (λ x. x .timers) e }
 
-latched : {x y : Instance} → ButLatch x y → Same x y
-latched b = record { rules = ap rulesOf b; timers = ap (λ x. x .timers) b }
-
 held-same : (x : Instance) (sample : Sample) → Same x (holding x sample)
 held-same x sample = let k = holding-keeps x sample in record { rules = ap₂ rules (k .1) (k .2); timers = k .3 }
 
@@ -72,7 +71,13 @@ quiet-hold i m j sample p = record { kept = go (ℕ-discrete i j); silent = refl
     go (no n) = same (held-other m j sample i n)
 
 quiet-frame : (i : ℕ) (m : Model) (a b c : ℕ) → setsIt i m a b c ≡ false → Quiet i m (frame a b c)
-quiet-frame i m a b c e = record { kept = latched (frame-latch i m a b c e); silent = events-frame i m a b c; time = frame-tick m a b c }
+quiet-frame i m a b c e = record { kept = frame-own (Same x) i m a b c (same refl) acts; silent = events-frame i m a b c; time = frame-tick m a b c }
+  where
+    x : Instance
+    x = instanceAt m i
+
+    acts : counts m a b ≡ true → i ≡ b → Same x (acted x c (m .dtr0) .instance)
+    acts n q = let untimed = calm-untimed x c (m .dtr0) (sets-none i m a b c e n q) in record { rules = untimed .0; timers = untimed .1 }
 
 -- ---- a run, seen from the timers of instance i: n ticks, with some causes
 pub record Seen (i n : ℕ) (r : Rules) (t : Timers) (now : ℕ) (log : List Logged) : Type 0 where

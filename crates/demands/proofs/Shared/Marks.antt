@@ -1,7 +1,7 @@
 -- The marks: which of them is at the front of a session, and what it makes of the record there.
 -- Assumes nothing.
 use Prim.Native.Nat.{ℕ, _≤_}
-use Rattle.demands.specs.Numbers.{Declaring, FR, IN, LO, SA, TK}
+use Rattle.demands.specs.Numbers.{Declaring, FR, IM, IN, LO, SA, TK}
 use Rattle.device.specs.declared.model.Model.{Model}
 use Rattle.judging.proofs.Asking.{marked}
 use Rattle.judging.specs.Asked.{asked, askedBy, declareAsked, frameAsked, sampleAsked, ticksAsked}
@@ -20,7 +20,7 @@ use mathlib.Core.Path.{refl, _∙_, _≡_}
 
 -- the mark at the front of `rest`, by its letters
 abbrev pub MarkIs : Mark → List ℕ → Type 0
-MarkIs Unknown rest = (IN rest → ⊥) × (LO rest → ⊥) × (SA rest → ⊥) × (FR rest → ⊥) × (TK rest → ⊥)
+MarkIs Unknown rest = (IN rest → ⊥) × (LO rest → ⊥) × (IM rest → ⊥) × (SA rest → ⊥) × (FR rest → ⊥) × (TK rest → ⊥)
 MarkIs Declaration rest = Declaring rest
 MarkIs Measurement rest = SA rest
 MarkIs Bus rest = FR rest
@@ -29,22 +29,24 @@ MarkIs Time rest = TK rest
 module _ (rest : List ℕ) (l : 2 ≤ length rest) where
   pub mark-is : MarkIs (markOf (word rest 0)) rest
   unfolding markOf
-  mark-is = go (eqb w marks.IN) refl (eqb w marks.LO) refl (eqb w marks.SA) refl (eqb w marks.FR) refl (eqb w marks.TK) refl
+  mark-is = go (eqb w marks.IN) refl (eqb w marks.LO) refl (eqb w marks.IM) refl (eqb w marks.SA) refl (eqb w marks.FR) refl (eqb w marks.TK) refl
     where
       w : ℕ
       w = word rest 0
 
-      go : (a : Bool) → eqb w marks.IN ≡ a → (o : Bool) → eqb w marks.LO ≡ o → (b : Bool) → eqb w marks.SA ≡ b → (c : Bool) → eqb w marks.FR ≡ c
-          → (d : Bool) → eqb w marks.TK ≡ d
-          → MarkIs (cond a Declaration (cond o Declaration (cond b Measurement (cond c Bus (cond d Time Unknown))))) rest
-      go true e o i b f c g d h = inl (l, eqb-true w marks.IN e)
-      go false e true i b f c g d h = inr (l, eqb-true w marks.LO i)
-      go false e false i true f c g d h = (l, eqb-true w marks.SA f)
-      go false e false i false f true g d h = (l, eqb-true w marks.FR g)
-      go false e false i false f false g true h = (l, eqb-true w marks.TK h)
-      go false e false i false f false g false h = (
+      go : (a : Bool) → eqb w marks.IN ≡ a → (o : Bool) → eqb w marks.LO ≡ o → (v : Bool) → eqb w marks.IM ≡ v
+          → (b : Bool) → eqb w marks.SA ≡ b → (c : Bool) → eqb w marks.FR ≡ c → (d : Bool) → eqb w marks.TK ≡ d
+          → MarkIs (cond a Declaration (cond o Declaration (cond v Declaration (cond b Measurement (cond c Bus (cond d Time Unknown)))))) rest
+      go true e o i v j b f c g d h = inl (l, eqb-true w marks.IN e)
+      go false e true i v j b f c g d h = inr (inl (l, eqb-true w marks.LO i))
+      go false e false i true j b f c g d h = inr (inr (l, eqb-true w marks.IM j))
+      go false e false i false j true f c g d h = (l, eqb-true w marks.SA f)
+      go false e false i false j false f true g d h = (l, eqb-true w marks.FR g)
+      go false e false i false j false f false g true h = (l, eqb-true w marks.TK h)
+      go false e false i false j false f false g false h = (
         λ p. eqb-false w marks.IN e (p .1),
         λ p. eqb-false w marks.LO i (p .1),
+        λ p. eqb-false w marks.IM j (p .1),
         λ p. eqb-false w marks.SA f (p .1),
         λ p. eqb-false w marks.FR g (p .1),
         λ p. eqb-false w marks.TK h (p .1),
@@ -52,10 +54,11 @@ module _ (rest : List ℕ) (l : 2 ≤ length rest) where
 
   pub unknown-mark : MarkIs Unknown rest → markOf (word rest 0) ≡ Unknown
   unfolding markOf
-  unknown-mark (a, o, b, c, d) =
+  unknown-mark (a, o, v, b, c, d) =
       rw (
         ne-eqb (word rest 0) marks.IN (λ e. a (l, e)),
         ne-eqb (word rest 0) marks.LO (λ e. o (l, e)),
+        ne-eqb (word rest 0) marks.IM (λ e. v (l, e)),
         ne-eqb (word rest 0) marks.SA (λ e. b (l, e)),
         ne-eqb (word rest 0) marks.FR (λ e. c (l, e)),
         ne-eqb (word rest 0) marks.TK (λ e. d (l, e)),
@@ -66,7 +69,8 @@ module _ (rest : List ℕ) (m : Model) where
   pub declaring-asked : Declaring rest → asked rest m ≡ declareAsked rest m
   unfolding markOf askedBy
   declaring-asked (inl (l, e)) = marked rest m l ∙ rw e
-  declaring-asked (inr (l, e)) = marked rest m l ∙ rw e
+  declaring-asked (inr (inl (l, e))) = marked rest m l ∙ rw e
+  declaring-asked (inr (inr (l, e))) = marked rest m l ∙ rw e
 
   pub sa-asked : SA rest → asked rest m ≡ sampleAsked rest m
   unfolding markOf askedBy

@@ -1,17 +1,18 @@
 -- What each happening does to the device and to one instance of it: the laws of the device, over happenings.
 -- Assumes nothing.
 use Prim.Native.Nat.{ℕ, _+_, _≤_}
-use Rattle.command.specs.Answering.{ButLatch}
+use Rattle.command.specs.Answering.{acted}
 use Rattle.demands.specs.Alone.{Present, loadsDtr0, rises}
 use Rattle.demands.specs.Happenings.{Happening, declare, frame, happen, hold, modelAfter, tick}
 use Rattle.demands.specs.Window.{setsIt}
-use Rattle.device.proofs.Instances.{alike, declared-more, held-at, numbered-latch}
+use Rattle.device.proofs.Instances.{declared-more, held-at, numbered-by}
 use Rattle.device.proofs.Laws.{declared-dtr0, declared-last, declared-length, declared-tick, frame-declared, frame-counts, frame-dtr0, frame-ignored, frame-last, frame-length, frame-loads, frame-tick, held-declared, held-length, numbered-other}
 use Rattle.device.specs.Device.{heldModel, instanceAt}
 use Rattle.device.specs.Frame.{counts, frameModel, loads, numberedModel}
 use Rattle.device.specs.declared.model.Model.{Model}
 use Rattle.opcode.specs.Meaning.{isSetting, meant}
 use Rattle.sensor.specs.Tick.{holding, ticked}
+use Rattle.sensor.specs.declared.instance.Instance.{Instance}
 use Rattle.sensor.specs.declared.settings.Sample.{Sample}
 use Rattle.ticks.proofs.Laws.{tick-declared, tick-last, tick-length}
 use Rattle.ticks.proofs.Ticked.{tick-at}
@@ -80,23 +81,26 @@ run-last m (h ∷ hs) = run-last (happen m h) hs ∙ last-kept m h
 pub held-own : {i : ℕ} {m : Model} (sample : Sample) → Present i m → instanceAt (heldModel m i sample) i ≡ holding (instanceAt m i) sample
 held-own {i} {m} sample p = held-at m i sample (p .listed)
 
--- ---- FR: a frame that sets nothing of instance i changes at most its latch
-pub frame-latch : (i : ℕ) (m : Model) (first second third : ℕ) → setsIt i m first second third ≡ false
-    → ButLatch (instanceAt m i) (instanceAt (frameModel m first second third) i)
+-- ---- FR: what a frame leaves of instance i is as it was or, where it counts for it, as byte 3 leaves it
+pub frame-own : (P : Instance → Type 0) (i : ℕ) (m : Model) (first second third : ℕ) → P (instanceAt m i)
+    → (counts m first second ≡ true → i ≡ second → P (acted (instanceAt m i) third (m .dtr0) .instance))
+    → P (instanceAt (frameModel m first second third) i)
 unfolding instanceAt
-frame-latch i m first second third e = go (loads first second) refl (counts m first second) refl
+frame-own P i m first second third was acts = go (loads first second) refl (counts m first second) refl
   where
-    by : counts m first second ≡ true → Dec (i ≡ second) → ButLatch (instanceAt m i) (instanceAt (numberedModel m second third) i)
-    by n (no other) = alike (numbered-other m second third i other)
-    by n (yes q) =
-        let calm : isSetting (meant (instanceAt m i .kind) third) ≡ false = rw (n, eq-eqb second i (sym q)) at e in
-        subst (λ j. ButLatch (instanceAt m i) (instanceAt (numberedModel m j third) i)) q (numbered-latch m i third calm)
+    by : counts m first second ≡ true → Dec (i ≡ second) → P (instanceAt (numberedModel m second third) i)
+    by n (no other) = subst P (sym (numbered-other m second third i other)) was
+    by n (yes q) = subst (λ j. P (instanceAt (numberedModel m j third) i)) q (numbered-by P m i third was (acts n q))
 
-    go : (l : Bool) → loads first second ≡ l → (c : Bool) → counts m first second ≡ c
-        → ButLatch (instanceAt m i) (instanceAt (frameModel m first second third) i)
-    go true l c n = rw (frame-loads m first second third l .0) (alike refl)
+    go : (l : Bool) → loads first second ≡ l → (c : Bool) → counts m first second ≡ c → P (instanceAt (frameModel m first second third) i)
+    go true l c n = rw (frame-loads m first second third l .0) was
     go false l true n = rw (frame-counts m first second third l n .0) (by n (ℕ-discrete i second))
-    go false l false n = rw (frame-ignored m first second third l n .0) (alike refl)
+    go false l false n = rw (frame-ignored m first second third l n .0) was
+
+-- one that sets nothing of instance i means no setting command to it, if it counts for it
+pub sets-none : (i : ℕ) (m : Model) (first second third : ℕ) → setsIt i m first second third ≡ false → counts m first second ≡ true → i ≡ second
+    → isSetting (meant (instanceAt m i .kind) third) ≡ false
+sets-none i m first second third e n q = rw (n, eq-eqb second i (sym q)) at e
 
 -- ---- a tick, of an instance that is there
 pub ticked-own : {i : ℕ} {m : Model} → Present i m → instanceAt (tickModel m) i ≡ ticked (instanceAt m i) .instance

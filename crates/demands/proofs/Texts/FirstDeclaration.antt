@@ -82,7 +82,7 @@ module _ (r : ℕ) (whole : wholeBytes r ≡ true) where
     both-asked : Both (asked lo m) (asked in′ m)
     unfolding declareAsked
     both-asked =
-        rw (declaring-asked lo m (inr (omega arith, refl)), declaring-asked in′ m (inl (omega arith, refl)))
+        rw (declaring-asked lo m (inr (inl (omega arith, refl))), declaring-asked in′ m (inl (omega arith, refl)))
         (go (ltb (length lo) (markSize Declaration)) (m .running || not (eqb i (m .declared))) (ltb i 16))
       where
         go : (a b c : Bool)
