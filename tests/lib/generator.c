@@ -6,17 +6,28 @@
 enum { OCCUPANCY = 3, LIGHT = 4 };
 enum { INSTANCES = 16, SESSION_MAX = 1 << 16 };
 
-/* The turns of profile f: the first ones each declare another sensor that is not modelled, the last ones an instance too many. */
-enum { DAMAGED_TURNS = 54, UNMODELLED_TURNS = 14, FULL_TURNS = 6 };
+/* The marks that declare. */
+typedef enum { IN, LO, IM, MARKS } mark;
+
+/* The turns of profile f: the first ones each declare another sensor, most of which are not modelled, the last ones an instance too
+ * many. */
+enum { DAMAGED_TURNS = 54, SENSORS = 8, UNMODELLED_TURNS = SENSORS * MARKS, FULL_TURNS = 6 };
+
+/* The values of movement-based occupancy. */
+enum { EMPTY = 0, STILL = 2, MOVING = 3 };
 
 /* What the generator remembers of an instance, to choose values and tick counts that tell something. It may be wrong: a setting
  * that is refused is remembered all the same. */
 typedef struct {
     uint8_t type, resolution;
-    bool lo; /* declared by LO: its band is on the input value */
-    uint8_t hysteresis, hysteresis_min, deadtime, report;
+    mark by; /* declared by LO, its band is on the input value; by IM, it is movement-based */
+    uint8_t hysteresis, hysteresis_min, deadtime, report, filter;
     uint32_t base; /* a value that the band may begin from */
     bool had_valid; /* light: status 1 is refused from now on */
+    /* movement-based */
+    bool failed, moving; /* the sample that it holds */
+    uint8_t hold, value;
+    uint32_t expires; /* the tick at which the hold that runs expires */
 } sketch;
 
 typedef struct {
@@ -24,6 +35,7 @@ typedef struct {
     uint8_t *bytes;
     size_t len;
     uint8_t dtr0;
+    uint32_t tick; /* from 0 on, wherever the model begins */
     unsigned declared;
     unsigned work_left; /* ticks x instances that the session may still cost */
     sketch instance[INSTANCES];
@@ -75,22 +87,48 @@ static void put(generator *g, const uint8_t *bytes, size_t count)
 
 #define PUT(g, ...) put((g), (const uint8_t[]){__VA_ARGS__}, sizeof((const uint8_t[]){__VA_ARGS__}))
 
-/* IN, or LO. */
-static void put_declaration(generator *g, bool lo, unsigned number, unsigned type, unsigned resolution)
+static void put_declaration(generator *g, mark by, unsigned number, unsigned type, unsigned resolution)
 {
-    const char *mark = lo ? "LO" : "IN";
-    PUT(g, (uint8_t)mark[0], (uint8_t)mark[1], (uint8_t)number, (uint8_t)type, (uint8_t)resolution);
+    static const char *const marks[MARKS] = {[IN] = "IN", [LO] = "LO", [IM] = "IM"};
+    PUT(g, (uint8_t)marks[by][0], (uint8_t)marks[by][1], (uint8_t)number, (uint8_t)type, (uint8_t)resolution);
+}
+
+static void hold_sample(sketch *s, unsigned status, uint32_t value)
+{
+    if (status == 0 && value <= light_most(s)) s->had_valid = true;
+    s->failed = status == 2;
+    s->moving = status == 0 && (value & 1);
 }
 
 static void put_sa(generator *g, unsigned number, unsigned status, uint32_t value)
 {
-    if (number < g->declared && status == 0 && value <= light_most(&g->instance[number])) g->instance[number].had_valid = true;
+    if (number < g->declared) hold_sample(&g->instance[number], status, value);
     PUT(g, 'S', 'A', (uint8_t)number, (uint8_t)status, (uint8_t)(value >> 16), (uint8_t)(value >> 8), (uint8_t)value);
 }
 
 static void put_fr(generator *g, unsigned byte1, unsigned byte2, unsigned byte3)
 {
     PUT(g, 'F', 'R', (uint8_t)byte1, (uint8_t)byte2, (uint8_t)byte3);
+}
+
+static uint32_t hold_time(const sketch *s)
+{
+    return s->hold == 0 ? 20 : 200u * s->hold;
+}
+
+/* What ticks from this one on, up to another, make of the sample that a movement-based instance holds. */
+static void pass_ticks(sketch *s, uint32_t from, uint32_t to)
+{
+    if (s->failed) return;
+    if (s->moving) {
+        s->value = MOVING;
+        return;
+    }
+    if (s->value == MOVING) {
+        s->value = STILL;
+        s->expires = from + hold_time(s);
+    }
+    if (s->value == STILL && s->expires <= to) s->value = EMPTY;
 }
 
 /* A TK of as many ticks as the session may still cost. */
@@ -101,6 +139,8 @@ static void put_tk(generator *g, unsigned count)
     if (count == 0) return;
     g->work_left -= count * cost;
     PUT(g, 'T', 'K', (uint8_t)(count >> 8), (uint8_t)count);
+    for (unsigned i = 0; i < g->declared; i++) pass_ticks(&g->instance[i], g->tick + 1, g->tick + count);
+    g->tick += count;
 }
 
 /* A frame to an instance, by one of the two first bytes that count. */
@@ -111,7 +151,7 @@ static void put_command(generator *g, unsigned number, unsigned opcode)
 
 /* ---- Instances ---- */
 
-static void declare(generator *g, bool lo, unsigned type, unsigned resolution)
+static void declare(generator *g, mark by, unsigned type, unsigned resolution)
 {
     bool light = type == LIGHT;
     uint32_t hundredth = (1u << resolution) / 100;
@@ -119,25 +159,39 @@ static void declare(generator *g, bool lo, unsigned type, unsigned resolution)
     g->instance[g->declared] = (sketch){
         .type = (uint8_t)type,
         .resolution = (uint8_t)resolution,
-        .lo = lo,
+        .by = by,
         .hysteresis = 5,
         .hysteresis_min = least,
         .deadtime = light ? 30 : 2,
         .report = light ? 30 : 20,
+        .filter = light ? 1 : 3,
+        .hold = 90,
     };
-    put_declaration(g, lo, g->declared, type, resolution);
+    put_declaration(g, by, g->declared, type, resolution);
     g->declared++;
 }
 
+static void declare_presence(generator *g)
+{
+    declare(g, IN, OCCUPANCY, 2);
+}
+
+static void declare_movement(generator *g)
+{
+    declare(g, IM, OCCUPANCY, 2);
+}
+
+/* Of either kind. */
 static void declare_occupancy(generator *g)
 {
-    declare(g, false, OCCUPANCY, 2);
+    if (chance(g, 40)) declare_movement(g);
+    else declare_presence(g);
 }
 
 /* By either mark. */
 static void declare_light(generator *g, unsigned resolution)
 {
-    declare(g, chance(g, 40), LIGHT, resolution);
+    declare(g, chance(g, 40) ? LO : IN, LIGHT, resolution);
 }
 
 static void declare_any(generator *g, unsigned count)
@@ -158,7 +212,7 @@ static unsigned any_instance(generator *g)
 /* The bits that the number of the band has more than the measured value: LO's fills whole bytes. */
 static unsigned filled_bits(const sketch *s)
 {
-    return s->lo ? (24u - s->resolution) % 8 : 0;
+    return s->by == LO ? (24u - s->resolution) % 8 : 0;
 }
 
 /* The number of the band that is taken on a value. The bits of a value again and again are those of the fraction value /
@@ -203,7 +257,7 @@ static uint32_t light_value(generator *g, sketch *s)
 static void put_valid(generator *g, unsigned number)
 {
     sketch *s = &g->instance[number];
-    put_sa(g, number, 0, s->type == LIGHT ? light_value(g, s) : below(g, 4));
+    put_sa(g, number, 0, s->type == LIGHT ? light_value(g, s) : below(g, s->by == IM ? 2 : 4));
 }
 
 static void sample(generator *g, unsigned number)
@@ -219,6 +273,7 @@ static void sample(generator *g, unsigned number)
 static uint8_t telling_dtr0(generator *g, unsigned opcode)
 {
     switch (opcode) {
+    case 0x21: return (uint8_t)ONE_OF(g, 0, 0, 0, 0, 1, 1, 2, 254, 255, 255);
     case 0x22: case 0x30: return (uint8_t)ONE_OF(g, 0, 0, 1, 1, 1, 2, 3, 255);
     case 0x23: case 0x32: return (uint8_t)ONE_OF(g, 0, 0, 1, 2, 3, 19, 20, 21, 45, 255);
     case 0x31: return (uint8_t)ONE_OF(g, 0, 1, 5, 10, 24, 25, 26, 255);
@@ -232,10 +287,12 @@ static uint8_t telling_dtr0(generator *g, unsigned opcode)
 static void remember(sketch *s, unsigned opcode, uint8_t dtr0)
 {
     switch (opcode) {
+    case 0x21: if (dtr0 < 255) s->hold = dtr0; break;
     case 0x22: case 0x30: s->report = dtr0; break;
     case 0x23: case 0x32: s->deadtime = dtr0; break;
     case 0x31: s->hysteresis = dtr0; break;
     case 0x33: s->hysteresis_min = dtr0; break;
+    case 0x68: s->filter = dtr0; break;
     }
 }
 
@@ -262,11 +319,18 @@ static void set_times(generator *g, unsigned number, uint8_t deadtime, uint8_t r
     set_to(g, number, report_opcode(&g->instance[number]), report);
 }
 
-/* A setting command, most often one of the instance's type, after a new DTR0 or with what DTR0 holds. */
+/* A setting command of light, of presence, or of movement-based occupancy and its other commands. */
+static unsigned any_setting(generator *g, const sketch *s)
+{
+    if (s->type == LIGHT) return ONE_OF(g, 0x30, 0x31, 0x32, 0x33, 0x61, 0x68);
+    return s->by == IM ? ONE_OF(g, 0x20, 0x20, 0x21, 0x21, 0x22, 0x23, 0x24, 0x61, 0x68) : ONE_OF(g, 0x22, 0x23, 0x61, 0x68);
+}
+
+/* A setting command, most often one that the instance has, after a new DTR0 or with what DTR0 holds. */
 static void set_something(generator *g, unsigned number)
 {
-    bool light = (g->instance[number].type == LIGHT) == chance(g, 92);
-    unsigned opcode = light ? ONE_OF(g, 0x30, 0x31, 0x32, 0x33, 0x61, 0x68) : ONE_OF(g, 0x22, 0x23, 0x61, 0x68);
+    static const sketch others[] = {{.type = OCCUPANCY}, {.type = OCCUPANCY, .by = IM}, {.type = LIGHT}};
+    unsigned opcode = any_setting(g, chance(g, 90) ? &g->instance[number] : &others[below(g, 3)]);
     if (chance(g, 85)) load_dtr0(g, telling_dtr0(g, opcode));
     put_command(g, number, opcode);
     remember(&g->instance[number], opcode, g->dtr0);
@@ -274,7 +338,7 @@ static void set_something(generator *g, unsigned number)
 
 static unsigned any_query(generator *g)
 {
-    return ONE_OF(g, 0x80, 0x81, 0x82, 0x83, 0x84, 0x86, 0x8C, 0x8D, 0x90, 0x2C, 0x2E, 0x3C, 0x3D, 0x3E, 0x3F);
+    return ONE_OF(g, 0x80, 0x81, 0x82, 0x83, 0x84, 0x86, 0x8C, 0x8D, 0x90, 0x2C, 0x2D, 0x2E, 0x2F, 0x3C, 0x3D, 0x3E, 0x3F);
 }
 
 /* The whole input value, or more of it than there is. */
@@ -393,23 +457,30 @@ static void cut(generator *g, size_t start)
     g->work_left = 0;
 }
 
+static mark any_mark(generator *g)
+{
+    return (mark)below(g, MARKS);
+}
+
 /* A type or a resolution that is not modelled, or a number that is not the next. */
 static void bad_declaration(generator *g)
 {
-    bool lo = chance(g, 50);
+    mark by = any_mark(g);
     unsigned number = chance(g, 70) ? g->declared : below(g, 18);
     switch (below(g, 3)) {
-    case 0: put_declaration(g, lo, number, OCCUPANCY, ONE_OF(g, 0, 1, 2, 3, 24)); break;
-    case 1: put_declaration(g, lo, number, LIGHT, ONE_OF(g, 0, 1, 24, 25, 255)); break;
-    default: put_declaration(g, lo, number, ONE_OF(g, 0, 1, 2, 5, 255), ONE_OF(g, 2, 8)); break;
+    case 0: put_declaration(g, by, number, OCCUPANCY, ONE_OF(g, 0, 1, 2, 3, 24)); break;
+    case 1: put_declaration(g, by, number, LIGHT, ONE_OF(g, 0, 1, 2, 24, 25, 255)); break;
+    default: put_declaration(g, by, number, ONE_OF(g, 0, 1, 2, 5, 255), ONE_OF(g, 2, 8)); break;
     }
 }
 
-/* A type or a resolution that is not modelled, by either mark, with the next number. Of type 3 with resolution 2 there is IN. */
+/* A type and a resolution by each mark, with the next number. Type 3 with resolution 2 is modelled but for LO, type 4 with resolution
+ * 2 but for IM; the others are not. */
 static void unmodelled(generator *g, unsigned turn)
 {
-    static const uint8_t sensors[UNMODELLED_TURNS / 2][2] = {{2, 2}, {3, 1}, {3, 2}, {3, 8}, {4, 0}, {4, 25}, {5, 24}};
-    put_declaration(g, turn % 2 == 1, g->declared, sensors[turn / 2][0], sensors[turn / 2][1]);
+    static const uint8_t sensors[SENSORS][2] = {{2, 2}, {3, 1}, {3, 2}, {3, 8}, {4, 0}, {4, 2}, {4, 25}, {5, 24}};
+    const uint8_t *sensor = sensors[turn / MARKS];
+    put_declaration(g, (mark)(turn % MARKS), g->declared, sensor[0], sensor[1]);
 }
 
 /* What would be taken, but that a record of another kind comes before it; sometimes the session ends in it. */
@@ -417,8 +488,9 @@ static void late_declaration(generator *g)
 {
     put_fr(g, 0x01, 0x00, any_query(g));
     size_t start = g->len;
-    bool lo = chance(g, 50);
-    put_declaration(g, lo, g->declared, LIGHT, 1 + below(g, 24));
+    mark by = any_mark(g);
+    if (by == IM) put_declaration(g, by, g->declared, OCCUPANCY, 2);
+    else put_declaration(g, by, g->declared, LIGHT, 1 + below(g, 24));
     if (chance(g, 40)) cut(g, start);
 }
 
@@ -432,13 +504,13 @@ static void bad_sa(generator *g)
     case 1: put_sa(g, number, ONE_OF(g, 3, 4, 255), 0); break;
     case 2: put_sa(g, number, 1, 0); break;
     case 3: put_sa(g, number, 1 + below(g, 2), ONE_OF(g, 1, 0x100, 0x10000, 0xFFFFFF)); break;
-    default: put_sa(g, number, 0, s->type == LIGHT ? light_most(s) + ONE_OF(g, 0, 1, 1, 2) : 3 + below(g, 2)); break;
+    default: put_sa(g, number, 0, s->type == LIGHT ? light_most(s) + ONE_OF(g, 0, 1, 1, 2) : s->by == IM ? 1 + below(g, 4) : 3 + below(g, 2));
     }
 }
 
 static void bad_mark(generator *g)
 {
-    static const char marks[] = "INLOSAFRTKEVANXX";
+    static const char marks[] = "INLOIMSAFRTKEVANXX";
     unsigned at = below(g, sizeof marks - 2);
     PUT(g, (uint8_t)marks[at], (uint8_t)marks[at + 1]);
     for (unsigned i = below(g, 4); i > 0; i--) PUT(g, (uint8_t)below(g, 3));
@@ -612,32 +684,34 @@ typedef struct {
     unsigned light, occupancy, deadtime;
 } pair;
 
-static void declare_pair(generator *g, pair p)
+static void declare_pair(generator *g, pair p, bool movement)
 {
     for (unsigned i = 0; i < 2; i++) {
         if (i == p.light) declare_light(g, 10 + below(g, 15));
-        else declare_occupancy(g);
+        else if (movement) declare_movement(g);
+        else declare_presence(g);
     }
 }
 
 /* Settings that are not the DTR0 of profile j nor, but for light's filter, the defaults; a report every 20 ticks. */
 static void settle(generator *g, unsigned number, unsigned deadtime)
 {
-    bool light = g->instance[number].type == LIGHT;
+    bool light = g->instance[number].type == LIGHT, movement = g->instance[number].by == IM;
     put_command(g, number, 0x62);
     set_to(g, number, 0x61, 3);
-    set_to(g, number, 0x68, light ? 1 : (uint8_t)ONE_OF(g, 0x07, 0x0F, 0x17, 0x1F));
+    set_to(g, number, 0x68, light ? 1 : (uint8_t)(movement ? ONE_OF(g, 0x17, 0x1F, 0x1F) : ONE_OF(g, 0x07, 0x0F, 0x17, 0x1F)));
     set_times(g, number, (uint8_t)deadtime, 1);
     if (light) set_to(g, number, 0x31, (uint8_t)ONE_OF(g, 1, 10, 25));
 }
 
-/* Samples that are a change for certain: light from one end of its range to the other, occupancy between occupied and vacant. */
+/* Samples that are a change for certain: light from one end of its range to the other, presence between occupied and vacant, movement
+ * that comes or goes. */
 static void swing(generator *g, pair p)
 {
     sketch *light = &g->instance[p.light], *occupancy = &g->instance[p.occupancy];
     uint32_t quarter = light_most(light) / 4;
     light->base = light->base > 2 * quarter ? below(g, quarter) : light_most(light) - below(g, quarter);
-    occupancy->base = (~occupancy->base & 2) | below(g, 2);
+    occupancy->base = occupancy->by == IM ? !occupancy->moving : (~occupancy->base & 2) | below(g, 2);
     put_sa(g, p.light, 0, light->base);
     put_sa(g, p.occupancy, 0, occupancy->base);
 }
@@ -661,7 +735,7 @@ static void put_third_byte(generator *g, pair p, unsigned byte)
 
 static void query_settings(generator *g, pair p)
 {
-    static const uint8_t both[] = {0x83, 0x84, 0x90}, light[] = {0x3C, 0x3D, 0x3E, 0x3F}, occupancy[] = {0x2C, 0x2E};
+    static const uint8_t both[] = {0x83, 0x84, 0x90}, light[] = {0x3C, 0x3D, 0x3E, 0x3F}, occupancy[] = {0x2C, 0x2D, 0x2E, 0x2F};
     for (unsigned i = 0; i < sizeof both; i++) put_to_both(g, p, both[i]);
     for (unsigned i = 0; i < sizeof light; i++) put_command(g, p.light, light[i]);
     for (unsigned i = 0; i < sizeof occupancy; i++) put_command(g, p.occupancy, occupancy[i]);
@@ -697,14 +771,15 @@ static void turn(generator *g, pair p, unsigned byte)
     put_tk(g, p.deadtime - 1);
 }
 
-/* Sixteen third bytes in a row. Where a swing and its dead time come first, the later ones go the other way. */
-static void third_bytes(generator *g, unsigned first)
+/* Sixteen third bytes in a row, in sixteen turns to light and presence and then to light and movement-based occupancy. Where a swing
+ * and its dead time come first, the later ones go the other way. */
+static void third_bytes(generator *g, unsigned turns)
 {
     unsigned light = below(g, 2);
     pair p = {.light = light, .occupancy = 1 - light, .deadtime = ONE_OF(g, 3, 4, 6)};
-    declare_pair(g, p);
+    declare_pair(g, p, turns >= 16);
     if (chance(g, 50)) swing(g, p), put_tk(g, 31);
-    for (unsigned i = 0; i < 16; i++) turn(g, p, first + i);
+    for (unsigned i = 0; i < 16; i++) turn(g, p, turns % 16 * 16 + i);
 }
 
 /* ---- Profile k: deadtime set while dead time runs ---- */
@@ -764,7 +839,7 @@ static void deadtimes_set(generator *g)
 {
     unsigned light = below(g, 2);
     pair p = {.light = light, .occupancy = 1 - light};
-    declare_pair(g, p);
+    declare_pair(g, p, chance(g, 40));
     for (unsigned i = 0; i < 8; i++) {
         p.deadtime = ONE_OF(g, 3, 10, 25, 45, 90);
         send_both(g, p);
@@ -886,8 +961,8 @@ static void unready(generator *g, test_case *c)
 static void declare_twins(generator *g, unsigned resolution)
 {
     bool lo = chance(g, 50);
-    declare(g, lo, LIGHT, resolution);
-    declare(g, !lo, LIGHT, resolution);
+    declare(g, lo ? LO : IN, LIGHT, resolution);
+    declare(g, lo ? IN : LO, LIGHT, resolution);
 }
 
 static void set_twins(generator *g, unsigned number, unsigned opcode, uint8_t dtr0)
@@ -915,7 +990,7 @@ static void query_twins(generator *g, unsigned number)
 /* hysteresisMin: none, least, most, and about one step or two of the measured value as LO's number has them. */
 static uint8_t telling_min(generator *g, unsigned number)
 {
-    const sketch *lo = &g->instance[g->instance[number].lo ? number : number ^ 1];
+    const sketch *lo = &g->instance[g->instance[number].by == LO ? number : number ^ 1];
     unsigned step = 1u << filled_bits(lo);
     return (uint8_t)ONE_OF(g, 0, 1, 255, step, step, step + 1, 2 * step - 1);
 }
@@ -1018,7 +1093,7 @@ test_case generate(uint64_t seed, char profile)
     case 'k': deadtimes_set(&g); break;
     case 'l': unready(&g, &c); break;
     case 'm': twins(&g, &c, turn_of(seed, 8, 1)); break;
-    default: third_bytes(&g, 16 * turn_of(seed, 8, 2)); break;
+    default: third_bytes(&g, turn_of(seed, 8, 4)); break;
     }
     c.session = buffer;
     c.session_len = g.len;

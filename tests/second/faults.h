@@ -108,6 +108,156 @@
     X(LO_DEAD_TIME_0_RUNS_ON, "LO: deadtime set to 0 does not end the running dead time, as before M-103") \
     X(LO_NO_BAND_IS_0, "LO: no band is a band from 0 to 0") \
     X(LO_BAND_KEPT_FAILED, "LO: status 2 keeps the band") \
+    /* Movement-based occupancy (02, M-100): the mark */ \
+    X(IM_UNKNOWN, "mark IM unknown") \
+    X(IM_IS_IN, "IM taken for IN: presence, and light too") \
+    X(IM_CUT_IS_ONE, "cut IM: 1, not 2") \
+    X(IM_THREE_BEFORE_TWO, "cut IM after a record of another kind: 3 before 2") \
+    X(IM_FOUR_BEFORE_THREE, "late or skipped IM that is not modelled: 4 before 3") \
+    X(LATE_IM_TAKEN, "IM after a record of another kind taken") \
+    X(IM_ANOTHER_KIND, "IN or LO after IM refused with 3: IM a record of another kind") \
+    X(IM_AFTER_IN_LATE, "IM after IN refused with 3") \
+    X(IM_AFTER_LO_LATE, "IM after LO refused with 3") \
+    X(IM_NUMBERED_APART, "IM numbered apart from IN and LO") \
+    X(IM_16_IS_THREE, "IM number 16 refused with 3 after 16 others") \
+    X(IM_LIGHT_TAKEN, "IM of type 4 taken, as IN's") \
+    X(IM_TYPE_4_IS_3, "IM of type 4 taken for type 3") \
+    X(IM_TYPE_IGNORED, "IM of any type taken for type 3") \
+    X(IM_RESOLUTION_1, "IM with resolution 1 taken") \
+    X(IM_RESOLUTION_IGNORED, "IM with any resolution taken, as 2") \
+    X(IM_FOR_ALL, "one IM makes all occupancy instances movement-based") \
+    X(CALL_FORGETS_IM, "reading that goes on from an earlier one's state forgets that IM declared an instance") \
+    X(CALL_FORGETS_HOLD, "reading that goes on from an earlier one's state forgets a running hold") \
+    X(CALL_FORGETS_CATCHING, "reading that goes on from an earlier one's state forgets catching") \
+    /* Movement-based occupancy (02, M-100): samples, at the start */ \
+    X(IM_BIT_1_TAKEN, "bit 1 of a movement sample taken, and not looked at") \
+    X(IM_BIT_1_HELD, "movement sample that is refused held all the same") \
+    X(IM_NOT_READY_TAKEN, "IM: status 1 allowed as light's: taken before a valid sample, 13 after one") \
+    X(IM_STARTS_NOT_READY, "IM: not ready before its first sample") \
+    X(IM_STARTS_OCCUPIED, "IM: occupied at the start, until hold expires") \
+    X(IM_FILTER_WITH_MOVEMENT, "IM: filter bit 3 set at the start") \
+    X(HOLD_STARTS_AS_2, "hold 2 at the start") \
+    X(HOLD_STARTS_AS_9, "hold 9 at the start") \
+    X(CATCHING_AT_START, "catching at the start") \
+    /* Movement-based occupancy (02, M-100): values and triggers */ \
+    X(MOVES_TO_55, "movement from vacant goes to 0x55") \
+    X(MOVES_FOR_A_SECOND, "0xFF for 20 ticks at least") \
+    X(STILL_IS_EMPTY, "no movement goes to 0x00 at once") \
+    X(OCCUPIED_AGAIN, "movement from 0xAA gives Occupied too") \
+    X(OCCUPIED_ALONE, "movement from vacant gives Occupied alone") \
+    X(MOVEMENT_ALONE, "movement from vacant gives Movement alone") \
+    X(MOVEMENT_AGAIN, "each tick with movement gives Movement") \
+    X(STILL_UNSAID, "no movement gives no trigger") \
+    X(VACANT_AT_STILL, "no movement gives Vacant too") \
+    X(VACANT_WITH_NO_MOVEMENT, "hold expiry gives No movement too") \
+    X(VACANT_UNSAID, "hold expiry gives no Vacant") \
+    X(VACANT_BEATS_MOVEMENT, "hold expiry at a tick with movement goes to 0x00") \
+    X(VACANT_WITH_MOVEMENT, "hold expiry at a tick with movement gives Vacant too") \
+    X(OCCUPIED_AT_EXPIRY, "hold expiry at a tick with movement gives Occupied too") \
+    X(IM_DISABLED_NOT_TAKEN, "IM: value stands still while disabled") \
+    X(FAILURE_IS_STILL, "failure counts as no movement") \
+    X(BIT_3_MISSING, "information bit 3 missing") \
+    X(BIT_3_NOT_IN_REPORTS, "information bit 3 missing in reports") \
+    X(BIT_3_OCCUPIED_ALONE, "information bit 3 missing while vacant") \
+    X(BIT_3_FOR_PRESENCE, "information bit 3 for presence too") \
+    /* Movement-based occupancy (02, M-100): hold */ \
+    X(HOLD_SHORT, "hold short by one tick") \
+    X(HOLD_LONG, "hold long by one tick") \
+    X(HOLD_0_AT_ONCE, "hold 0 expires at the next tick") \
+    X(HOLD_0_IS_UNIT, "hold 0 is 200 ticks") \
+    X(HOLD_0_NEVER, "hold 0 never expires") \
+    X(HOLD_0_REFUSED, "hold 0 not taken") \
+    X(HOLD_254_REFUSED, "hold 254 not taken") \
+    X(HOLD_255_TAKEN, "hold 255 taken") \
+    X(HOLD_UNIT_20, "hold unit 20 ticks") \
+    X(HOLD_UNIT_100, "hold unit 100 ticks") \
+    X(HOLD_IN_15_BITS, "hold time kept in 15 bits") \
+    X(HOLD_90_SHORT, "hold 90 answered, but 9 run") \
+    X(HOLD_BY_DEAD_TIME, "hold time never below dead time") \
+    X(HOLD_BY_REPORT, "hold time never below report time") \
+    X(HOLD_SET_AT_ONCE, "new hold starts a running one again") \
+    X(HOLD_SET_CUTS, "new hold cuts a running one") \
+    X(HOLD_SET_0_ENDS, "hold set to 0 ends a running one at the next tick") \
+    X(HOLD_REFUSED_RUNNING, "new hold not taken while one runs") \
+    X(HOLD_FOR_ALL, "new hold for all movement-based instances") \
+    X(HOLD_STARTS_EACH_STILL, "hold starts again at each tick without movement") \
+    X(HOLD_STARTS_BY_SA, "hold starts again by each SA") \
+    X(HOLD_STARTS_BY_MOVEMENT, "hold starts at each tick with movement, not at the first one without") \
+    X(HOLD_STARTS_ENTERING, "hold starts with the first tick of movement, not with the first one without") \
+    X(EVENT_STARTS_HOLD, "each event starts a running hold again") \
+    X(HOLD_NOT_RESTARTED, "hold runs on through movement, and does not start again") \
+    X(HOLD_RESUMED, "hold stands still during movement, and then goes on") \
+    X(HOLD_WANTS_FILTER, "hold not started with filter bit 4 clear") \
+    X(HOLD_WANTS_ENABLED, "hold not started while disabled") \
+    X(HOLD_FROZEN_FAILED, "hold stands still in a failure") \
+    X(HOLD_FROZEN_DISABLED, "hold stands still while disabled") \
+    X(HOLD_FROZEN_DEAD_TIME, "hold stands still in dead time") \
+    X(EXPIRY_WAITS_DISABLED, "hold expiry waits while disabled") \
+    X(EXPIRY_WAITS_DEAD_TIME, "hold expiry waits in dead time") \
+    X(EXPIRY_WANTS_FILTER, "hold expiry waits for filter bit 1") \
+    X(EMPTY_IN_FAILURE, "hold expiry in a failure goes to 0x00 at once, without Vacant") \
+    X(EXPIRY_LOST_IN_FAILURE, "hold expiry in a failure lost: 0xAA stays") \
+    X(FAILURE_STOPS_HOLD, "failure stops a running hold: 0xAA stays") \
+    X(FAILURE_STARTS_HOLD, "failure starts a running hold again") \
+    X(FAILURE_ENDS_HOLD, "failure ends a running hold") \
+    X(DISABLING_STOPS_HOLD, "disabling stops a running hold: 0xAA stays") \
+    X(ENABLING_STARTS_HOLD, "enabling starts a running hold again") \
+    /* Movement-based occupancy (02, M-100): cancel hold */ \
+    X(CANCEL_IGNORED, "cancel hold does nothing") \
+    X(CANCEL_IGNORED_DISABLED, "cancel hold does nothing while disabled") \
+    X(CANCEL_IGNORED_FAILED, "cancel hold does nothing in a failure") \
+    X(CANCEL_AT_ONCE, "cancel hold goes to 0x00 before the next tick") \
+    X(CANCEL_TICK_LATE, "cancelled hold expires a tick late") \
+    X(CANCEL_STOPS, "cancel hold stops the hold: 0xAA stays") \
+    X(CANCEL_RESTARTS, "cancel hold starts the hold again") \
+    X(CANCEL_WITHOUT_VACANT, "cancelled hold goes to 0x00 without Vacant") \
+    X(CANCEL_BEATS_MOVEMENT, "cancelled hold at a tick with movement goes to 0x00") \
+    X(CANCEL_FOR_NEXT_HOLD, "cancel hold with none running lets the next one expire at once") \
+    X(CANCEL_SENDS_VACANT, "cancel hold while vacant gives Vacant") \
+    X(CANCEL_ENDS_MOVING, "cancel hold in 0xFF goes to 0x00") \
+    X(CANCEL_FOR_ALL, "cancel hold for all movement-based instances") \
+    X(FAILURE_UNDOES_CANCEL, "failure at the next tick undoes cancel hold") \
+    /* Movement-based occupancy (02, M-100): catching */ \
+    X(CATCH_IGNORED, "catch movement does nothing") \
+    X(CATCH_IGNORED_DISABLED, "catch movement does nothing while disabled") \
+    X(CATCH_IGNORED_MOVING, "catch movement does nothing in 0xFF") \
+    X(CATCH_SETS_WITH_BIT_3, "catch movement sets catching with filter bit 3 set") \
+    X(CATCH_LEAVES_WITH_BIT_3, "catch movement with filter bit 3 set leaves catching") \
+    X(CATCH_TOGGLES, "second catch movement ends catching") \
+    X(CATCH_SETS_FILTER, "catch movement sets filter bit 3") \
+    X(CATCH_CLEARS_WAITING, "catch movement clears the waiting triggers") \
+    X(CATCH_TRIGGERS_MOVING, "catch movement in 0xFF gives Movement at once") \
+    X(CATCH_FOR_ALL, "catch movement for all movement-based instances") \
+    X(CATCHES_FROM_STILL_ALONE, "catching lets Movement pass from 0xAA alone") \
+    X(CATCHES_FROM_VACANT_ALONE, "catching lets Movement pass from vacant alone") \
+    X(CATCHES_NO_MOVEMENT, "catching lets No movement pass too") \
+    X(CATCHING_STAYS, "catching not ended by the event") \
+    X(FILTERED_KEEPS_CATCHING, "catching not ended by an event with filter bit 3 set") \
+    X(STILL_KEEPS_CATCHING, "catching not ended by an event that waited until the movement was over") \
+    X(ANY_EVENT_ENDS_CATCHING, "catching ended by any event") \
+    X(REPORT_ENDS_CATCHING, "catching ended by a report") \
+    X(CATCHING_ENDS_WHEN_CAUGHT, "catching ended when Movement comes, not when it is sent") \
+    X(DISABLED_MOVEMENT_ENDS_CATCHING, "catching ended by Movement in a disabled time") \
+    X(DISABLED_CAUGHT_WAITS, "Movement caught in a disabled time waits") \
+    X(DEAD_TIME_FORGETS_CAUGHT, "Movement in dead time not caught") \
+    X(FILTER_KEEPS_CAUGHT, "new filter without bit 3 keeps Movement that was caught") \
+    X(FILTER_DROP_ENDS_CATCHING, "catching ended by a new filter that drops Movement") \
+    X(FILTER_BIT_3_ENDS_CATCHING, "catching ended by a new filter with bit 3") \
+    X(FILTER_ENDS_CATCHING, "catching ended by any new filter") \
+    X(FAILURE_ENDS_CATCHING, "catching ended by a failure") \
+    X(DISABLING_ENDS_CATCHING, "catching ended by disabling") \
+    X(ENABLING_ENDS_CATCHING, "catching ended by enabling") \
+    X(NOT_CATCHING_ANSWERED, "2F answers 0 when not catching") \
+    X(CATCHING_ANSWERS_1, "2F answers 1 when catching") \
+    /* Movement-based occupancy (02, M-100): its opcodes to the others */ \
+    X(PRESENCE_CATCHES, "presence obeys 20") \
+    X(PRESENCE_HAS_HOLD, "presence obeys 21, and answers 2D by it") \
+    X(PRESENCE_CANCELS, "presence obeys 24: vacant until the next tick") \
+    X(PRESENCE_ANSWERS_2D, "presence answers 2D with MASK") \
+    X(PRESENCE_ANSWERS_2F, "presence answers 2F with 0") \
+    X(LIGHT_ANSWERS_2D, "light answers 2D with MASK") \
+    X(LIGHT_ANSWERS_2F, "light answers 2F with 0") \
+    X(IM_ANSWERS_29, "IM answers 29") \
     /* Widths */ \
     X(ZERO_PADDED, "inputValue padded with zeros") \
     X(NOT_WIDENED, "inputValue is the measured value, not widened") \
@@ -149,13 +299,12 @@
     X(ANSWERS_85, "answers 85") \
     X(ANSWERS_87_FAILED, "answers 87 while failed") \
     X(LIGHT_ANSWERS_40, "light answers 40") \
-    X(OCCUPANCY_ANSWERS_2D, "occupancy answers 2D") \
     X(LIGHT_ANSWERS_OCCUPANCY, "light answers occupancy's queries") \
     X(OCCUPANCY_ANSWERS_LIGHT, "occupancy answers light's queries") \
     X(OPCODE_00_STARTS_DEAD_TIME, "00 starts dead time") \
-    X(OPCODE_20_CLEARS_WAITING, "20 clears the waiting triggers") \
-    X(OPCODE_21_STARTS_REPORT, "21 starts the report timer") \
-    X(OPCODE_24_ENDS_DEAD_TIME, "24 ends dead time") \
+    X(OPCODE_20_CLEARS_WAITING, "20 clears the waiting triggers of presence") \
+    X(OPCODE_21_STARTS_REPORT, "21 starts the report timer of light and presence") \
+    X(OPCODE_24_ENDS_DEAD_TIME, "24 ends dead time of light and presence") \
     X(OPCODE_34_SETS_MIN, "34 sets hysteresisMin") \
     X(OPCODE_60_SETS_PRIORITY, "60 sets the priority") \
     X(OPCODE_64_DISABLES, "64 disables") \

@@ -23,15 +23,16 @@ typedef struct {
 
 typedef struct {
     uint8_t type, resolution;
-    bool old_rule; /* light declared by LO: its band is on inputValue (02, M-107) */
+    bool old_rule;       /* light declared by LO: its band is on inputValue (02, M-107) */
+    bool movement_based; /* occupancy declared by IM: its value is made of movement and a hold timer (02, M-100) */
 
-    uint8_t report, deadtime, filter, priority, hysteresis, hysteresis_min; /* settings */
+    uint8_t report, deadtime, filter, priority, hysteresis, hysteresis_min, hold; /* settings */
     bool enabled;
 
     second_sample held; /* the latest SA; it is taken at the next tick */
     bool had_valid;     /* an SA with status 0 was taken */
     uint8_t status;     /* taken at the last tick */
-    uint32_t measured;  /* the value of the last tick with status 0 */
+    uint32_t measured;  /* the value of the last tick with status 0; movement-based, the value that was made there */
 
     uint32_t dead_left; /* ticks of dead time that remain */
     bool report_started;
@@ -42,6 +43,11 @@ typedef struct {
 
     uint8_t waiting; /* occupancy: the triggers that wait */
 
+    bool hold_started; /* movement-based: the hold timer runs, or has run out and waits for a tick with status 0 */
+    uint32_t hold_left; /* ticks until it expires */
+    bool cancelled;     /* it expires at the next tick */
+    bool catching;
+
     uint32_t latched; /* inputValue as query 8C found it */
     uint8_t latched_left; /* its bytes that query 8D has not given yet */
 } second_instance;
@@ -50,7 +56,7 @@ typedef struct {
     uint32_t tick;
     uint8_t dtr0;
     uint8_t declared;
-    bool others_read;  /* a record of another kind than IN and LO was taken */
+    bool others_read;  /* a record of another kind than IN, LO and IM was taken */
     bool table_in_use; /* the hour table (02, M-106): number 10 is given; not so in a fresh model */
     second_instance instance[SECOND_INSTANCES];
 } second_model;
