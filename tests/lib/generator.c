@@ -96,6 +96,7 @@ static void put_declaration(generator *g, mark by, unsigned number, unsigned typ
 static void hold_sample(sketch *s, unsigned status, uint32_t value)
 {
     if (status == 0 && value <= light_most(s)) s->had_valid = true;
+    if (s->by == IM && (status == 1 || value > 1)) return;
     s->failed = status == 2;
     s->moving = status == 0 && (value & 1);
 }
@@ -119,7 +120,7 @@ static uint32_t hold_time(const sketch *s)
 /* What ticks from this one on, up to another, make of the sample that a movement-based instance holds. */
 static void pass_ticks(sketch *s, uint32_t from, uint32_t to)
 {
-    if (s->failed) return;
+    if (s->by != IM || s->failed) return;
     if (s->moving) {
         s->value = MOVING;
         return;
@@ -284,12 +285,14 @@ static uint8_t telling_dtr0(generator *g, unsigned opcode)
     return (uint8_t)below(g, 256);
 }
 
-static void remember(sketch *s, unsigned opcode, uint8_t dtr0)
+static void remember(generator *g, unsigned number, unsigned opcode, uint8_t dtr0)
 {
+    sketch *s = &g->instance[number];
     switch (opcode) {
     case 0x21: if (dtr0 < 255) s->hold = dtr0; break;
     case 0x22: case 0x30: s->report = dtr0; break;
     case 0x23: case 0x32: s->deadtime = dtr0; break;
+    case 0x24: if (s->value == STILL) s->expires = g->tick + 1; break;
     case 0x31: s->hysteresis = dtr0; break;
     case 0x33: s->hysteresis_min = dtr0; break;
     case 0x68: s->filter = dtr0; break;
@@ -306,7 +309,7 @@ static void set_to(generator *g, unsigned number, unsigned opcode, uint8_t dtr0)
 {
     load_dtr0(g, dtr0);
     put_command(g, number, opcode);
-    remember(&g->instance[number], opcode, dtr0);
+    remember(g, number, opcode, dtr0);
 }
 
 /* The opcodes by which an instance's type sets its times. */
@@ -333,7 +336,7 @@ static void set_something(generator *g, unsigned number)
     unsigned opcode = any_setting(g, chance(g, 90) ? &g->instance[number] : &others[below(g, 3)]);
     if (chance(g, 85)) load_dtr0(g, telling_dtr0(g, opcode));
     put_command(g, number, opcode);
-    remember(&g->instance[number], opcode, g->dtr0);
+    remember(g, number, opcode, g->dtr0);
 }
 
 static unsigned any_query(generator *g)
@@ -494,6 +497,12 @@ static void late_declaration(generator *g)
     if (chance(g, 40)) cut(g, start);
 }
 
+/* The largest value that a valid sample may have. */
+static uint32_t valid_most(const sketch *s)
+{
+    return s->type == LIGHT ? light_most(s) : s->by == IM ? 1 : 3;
+}
+
 /* A sample with one thing wrong, or for an instance that may not be there. */
 static void bad_sa(generator *g)
 {
@@ -504,7 +513,7 @@ static void bad_sa(generator *g)
     case 1: put_sa(g, number, ONE_OF(g, 3, 4, 255), 0); break;
     case 2: put_sa(g, number, 1, 0); break;
     case 3: put_sa(g, number, 1 + below(g, 2), ONE_OF(g, 1, 0x100, 0x10000, 0xFFFFFF)); break;
-    default: put_sa(g, number, 0, s->type == LIGHT ? light_most(s) + ONE_OF(g, 0, 1, 1, 2) : s->by == IM ? 1 + below(g, 4) : 3 + below(g, 2));
+    default: put_sa(g, number, 0, valid_most(s) + ONE_OF(g, 0, 1, 1, 2)); break;
     }
 }
 
@@ -639,7 +648,7 @@ static void damaged(generator *g, unsigned turn)
     bool full = turn >= DAMAGED_TURNS - FULL_TURNS;
     declare_any(g, full ? INSTANCES : below(g, 4));
     if (full || turn < UNMODELLED_TURNS) unmodelled(g, turn % UNMODELLED_TURNS);
-    else if (chance(g, 15)) late_declaration(g);
+    else if (chance(g, 35)) late_declaration(g);
     MIX(g, below(g, 6), step_move, step_query, step_bad, step_noise, step_set);
     MIX(g, 1 + below(g, 4), step_bad);
     if (chance(g, 30)) damage(g);
@@ -1049,6 +1058,218 @@ static void twins(generator *g, test_case *c, unsigned turn)
     }
 }
 
+/* ---- Profile n: movement-based occupancy ---- */
+
+/* A few of it, with a few others before, between and behind. */
+static void declare_movements(generator *g, unsigned count, unsigned others)
+{
+    while (count + others > 0) {
+        if (below(g, count + others) < count) {
+            declare_movement(g);
+            count--;
+        } else {
+            if (chance(g, 60)) declare_presence(g);
+            else declare_light(g, 1 + below(g, 24));
+            others--;
+        }
+    }
+}
+
+static unsigned any_movement(generator *g)
+{
+    unsigned number = any_instance(g);
+    while (g->instance[number].by != IM) number = (number + 1) % g->declared;
+    return number;
+}
+
+/* A filter by which changes show, with bit 3 or without; or any. */
+static uint8_t telling_filter(generator *g)
+{
+    return (uint8_t)(chance(g, 50) ? below(g, 32) : ONE_OF(g, 0x03, 0x13, 0x17, 0x12, 0x1B, 0x1F));
+}
+
+/* What an instance's last ticks made of it. */
+static void ask_movement(generator *g, unsigned number)
+{
+    if (chance(g, 50)) put_command(g, number, 0x8C);
+    if (chance(g, 50)) put_command(g, number, 0x2F);
+    if (chance(g, 10)) put_command(g, number, ONE_OF(g, 0x2D, 0x2D, 0x82, 0x90));
+}
+
+static void move_once(generator *g, unsigned number, unsigned ticks)
+{
+    put_sa(g, number, 0, 1);
+    put_tk(g, ticks);
+}
+
+/* Movement that is over, and the hold timer started by the last tick. */
+static void begin_hold(generator *g, unsigned number)
+{
+    move_once(g, number, ONE_OF(g, 1, 1, 1, 2, 30));
+    put_sa(g, number, 0, 0);
+    put_tk(g, 1);
+}
+
+/* To so many ticks before the one at which the hold expires, unless that is far. */
+static void near_expiry(generator *g, unsigned number, unsigned before)
+{
+    const sketch *s = &g->instance[number];
+    uint32_t left = s->value == STILL && s->expires > g->tick ? s->expires - g->tick : 0;
+    if (left > before && left * g->declared < g->work_left) put_tk(g, left - before);
+}
+
+/* What comes between: movement, a failure, a command; most often one that changes something. */
+static void interfere(generator *g, unsigned number)
+{
+    sketch *s = &g->instance[number];
+    switch (below(g, 14)) {
+    case 0: case 1: case 2: put_sa(g, number, 0, !s->moving); break;
+    case 3: put_sa(g, number, 0, s->moving); break;
+    case 4: case 5: put_sa(g, number, 2, 0); break;
+    case 6: case 7: put_command(g, number, 0x24), remember(g, number, 0x24, 0); break;
+    case 8: put_command(g, number, 0x63); break;
+    case 9: put_command(g, number, 0x62); break;
+    case 10: set_to(g, number, 0x21, telling_dtr0(g, 0x21)); break;
+    case 11: set_to(g, number, 0x68, telling_filter(g)); break;
+    case 12: put_command(g, number, 0x20); break;
+    default: set_to(g, number, deadtime_opcode(s), (uint8_t)ONE_OF(g, 0, 1, 5, 25, 45)); break;
+    }
+}
+
+/* So many times something, or nothing, then a tick and what it made of the instance. */
+static void interfere_by_ticks(generator *g, unsigned number, unsigned times)
+{
+    for (; times > 0; times--) {
+        if (chance(g, 65)) interfere(g, number);
+        put_tk(g, 1);
+        ask_movement(g, number);
+    }
+}
+
+/* Enabled and valid again, for as many ticks as dead time may last. */
+static void recover(generator *g, unsigned number)
+{
+    const sketch *s = &g->instance[number];
+    put_command(g, number, 0x62);
+    if (s->failed) put_sa(g, number, 0, below(g, 2));
+    put_tk(g, 1);
+    ask_movement(g, number);
+    put_tk(g, s->deadtime);
+    ask_movement(g, number);
+}
+
+/* Ticks about the one at which the hold expires; before that, at times, something that changes it, or does not. */
+static void pass_expiry(generator *g, unsigned number)
+{
+    begin_hold(g, number);
+    if (chance(g, 40)) {
+        put_tk(g, below(g, 15));
+        interfere_by_ticks(g, number, 1 + below(g, 2));
+    }
+    near_expiry(g, number, below(g, 4));
+    interfere_by_ticks(g, number, 1 + below(g, 5));
+    recover(g, number);
+}
+
+/* An event, and dead time from then on. */
+static void begin_dead_time(generator *g, unsigned number, uint8_t deadtime)
+{
+    set_to(g, number, 0x23, 0);
+    set_to(g, number, 0x68, 0x1F);
+    set_to(g, number, 0x23, deadtime);
+    put_sa(g, number, 0, !g->instance[number].moving);
+    put_tk(g, 1);
+}
+
+/* Catch movement in any of the three values, with bit 3 or without, now and then in dead time; then movement that comes and goes, and what
+ * does not catch it. */
+static void pass_catching(generator *g, unsigned number)
+{
+    uint8_t filter = telling_filter(g);
+    if (chance(g, 30)) move_once(g, number, 1);
+    if (chance(g, 50)) begin_dead_time(g, number, (uint8_t)ONE_OF(g, 0, 3, 10, 25));
+    set_to(g, number, 0x68, chance(g, 80) ? filter & 0x17 : filter | 8);
+    put_command(g, number, 0x20);
+    put_command(g, number, 0x2F);
+    if (g->instance[number].moving && chance(g, 60)) put_sa(g, number, 0, 0), put_tk(g, 1 + below(g, 2));
+    if (chance(g, 60)) move_once(g, number, 1 + below(g, 2));
+    interfere_by_ticks(g, number, 1 + below(g, 4));
+    recover(g, number);
+    put_sa(g, number, 0, 0);
+    put_tk(g, ONE_OF(g, 1, 2, 21));
+    move_once(g, number, 1);
+    ask_movement(g, number);
+}
+
+/* An opcode of movement-based occupancy to any instance, and then samples for it that tell. */
+static void pass_by_others(generator *g)
+{
+    unsigned number = any_instance(g);
+    put_command(g, number, ONE_OF(g, 0x20, 0x20, 0x21, 0x24, 0x2D, 0x2F));
+    for (unsigned i = 1 + below(g, 3); i > 0; i--) {
+        sample(g, number);
+        put_tk(g, 1 + below(g, 2));
+    }
+}
+
+static void movement_round(generator *g)
+{
+    unsigned number = any_movement(g);
+    switch (below(g, 8)) {
+    case 0: case 1: case 2: pass_expiry(g, number); break;
+    case 3: case 4: case 5: pass_catching(g, number); break;
+    case 6: pass_by_others(g); break;
+    default: step_set(g); break;
+    }
+}
+
+/* Settings by which holds end within the session, and events show. */
+static void settle_movement(generator *g, unsigned number)
+{
+    set_to(g, number, 0x21, (uint8_t)ONE_OF(g, 0, 0, 0, 0, 1));
+    if (chance(g, 70)) set_to(g, number, 0x68, telling_filter(g));
+    if (chance(g, 50)) set_times(g, number, (uint8_t)ONE_OF(g, 0, 0, 1, 5, 25), (uint8_t)ONE_OF(g, 0, 1, 2));
+}
+
+/* A sample that is not allowed: what does its refusal leave, when the reading goes on? */
+static void end_part(generator *g, test_case *c)
+{
+    unsigned number = any_movement(g);
+    if (chance(g, 60)) put_sa(g, number, 0, 2 + below(g, 2));
+    else put_sa(g, number, 1, 0);
+    c->before_len = g->len;
+    put_tk(g, 1);
+    ask_movement(g, number);
+}
+
+/* A hold of many ticks that comes to its end: the default, or the longest. */
+static void long_hold(generator *g)
+{
+    g->work_left = 120000;
+    declare_movements(g, 1, below(g, 2));
+    unsigned number = any_movement(g);
+    if (chance(g, 50)) set_to(g, number, 0x21, (uint8_t)ONE_OF(g, 163, 164, 254, 255));
+    begin_hold(g, number);
+    near_expiry(g, number, below(g, 3));
+    interfere_by_ticks(g, number, 1 + below(g, 4));
+    recover(g, number);
+}
+
+static void movement(generator *g, test_case *c)
+{
+    if (chance(g, 10)) {
+        long_hold(g);
+        return;
+    }
+    unsigned rounds = 6 + below(g, 10), parted = chance(g, 20) ? below(g, rounds) : rounds;
+    declare_movements(g, 1 + below(g, 3), below(g, 3));
+    for (unsigned i = 0; i < g->declared; i++) if (g->instance[i].by == IM && chance(g, 90)) settle_movement(g, i);
+    for (unsigned i = 0; i < rounds; i++) {
+        if (i == parted) end_part(g, c);
+        movement_round(g);
+    }
+}
+
 /* ---- The choice by the seed ---- */
 
 /* The place of a seed among a hundred in a row, which have a hundred different ones. */
@@ -1061,8 +1282,8 @@ static unsigned place_of(uint64_t seed)
 static char profile_of(uint64_t seed)
 {
     static const struct { unsigned up_to; char profile; } shares[] = {
-        {12, 'a'}, {18, 'l'}, {28, 'b'}, {38, 'c'}, {46, 'm'}, {54, 'd'}, {58, 'k'}, {60, 'e'}, {78, 'f'}, {87, 'g'}, {90, 'h'},
-        {92, 'i'}, {100, 'j'},
+        {9, 'a'}, {12, 'n'}, {18, 'l'}, {26, 'b'}, {28, 'n'}, {36, 'c'}, {38, 'n'}, {46, 'm'}, {52, 'd'}, {54, 'n'}, {58, 'k'},
+        {60, 'e'}, {78, 'f'}, {85, 'g'}, {87, 'n'}, {90, 'h'}, {92, 'i'}, {100, 'j'},
     };
     unsigned i = 0;
     while (place_of(seed) >= shares[i].up_to) i++;
@@ -1093,6 +1314,7 @@ test_case generate(uint64_t seed, char profile)
     case 'k': deadtimes_set(&g); break;
     case 'l': unready(&g, &c); break;
     case 'm': twins(&g, &c, turn_of(seed, 8, 1)); break;
+    case 'n': g.work_left = 8000; movement(&g, &c); break;
     default: third_bytes(&g, turn_of(seed, 8, 4)); break;
     }
     c.session = buffer;

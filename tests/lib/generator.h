@@ -8,18 +8,20 @@
 /* Profiles:
  *   a  mixed traffic of 1 to 16 instances
  *   b  light, by IN or by LO: values at the band's edges, at every resolution
- *   c  occupancy: all filters
+ *   c  occupancy, by IN or by IM: all filters
  *   d  timers at their ends
  *   e  long quiet runs
- *   f  damaged, cut and random bytes; and declarations that are refused, by IN and by LO, all of them within 300 seeds
+ *   f  damaged, cut and random bytes; and declarations that are refused, by IN, LO and IM, all of them within 300 seeds
  *   g  outputs of 0 to 400 bytes
  *   h  ticks near 4,294,967,295
  *   i  tick numbers of four bytes
- *   j  every third byte, to light and to occupancy; all of them within 200 seeds
+ *   j  every third byte, to light and to occupancy of either kind; all of them within 400 seeds
  *   k  deadtime set while dead time runs, of light and of occupancy
  *   l  light not ready, before and after a valid sample; and what a refused sample leaves, in a second part
  *   m  light by IN and by LO side by side, of the same resolution and settings, given the same samples: values at the edges of
  *      either band; all resolutions within 100 seeds, and some sessions in two parts
+ *   n  movement-based occupancy, mixed with the others: movement, failures and commands about the tick at which a hold expires;
+ *      catching; some sessions in two parts, and some in which a long hold runs
  */
 typedef struct {
     uint64_t seed;
@@ -28,13 +30,13 @@ typedef struct {
     size_t session_len;
     /* So many first bytes are read as a session of their own, whatever number it comes to, and the rest as a session from the
      * model that was left. The rest's reading is compared; its log begins at the log's first byte, over the first one's.
-     * 0, and nothing is read before, but for profiles l and m. */
+     * 0, and nothing is read before, but for profiles l, m and n. */
     size_t before_len;
     size_t log_len;
     uint32_t start_tick; /* the tick number that the model begins with; 0 but for profiles h and i */
 } test_case;
 
-enum { GENERATOR_LOG_MAX = 4096, GENERATOR_LAST_PROFILE = 'm' };
+enum { GENERATOR_LOG_MAX = 4096, GENERATOR_LAST_PROFILE = 'n' };
 
 /* The profile is one of a to GENERATOR_LAST_PROFILE, or 0: the seed chooses. */
 test_case generate(uint64_t seed, char profile);
