@@ -20,9 +20,9 @@ static void put(const char *mark, const uint8_t *bytes, size_t count)
     length += 2 + count;
 }
 
-static void declare(unsigned instance, uint8_t type)
+static void declare(const char *mark, unsigned instance, uint8_t type)
 {
-    put("IN", (uint8_t[]){(uint8_t)instance, type, type == LIGHT ? RESOLUTION : 2}, 3);
+    put(mark, (uint8_t[]){(uint8_t)instance, type, type == LIGHT ? RESOLUTION : 2}, 3);
 }
 
 static void sample(unsigned instance, unsigned value)
@@ -42,7 +42,7 @@ static void ticks(unsigned count)
 
 static void queries(uint64_t count)
 {
-    declare(0, LIGHT);
+    declare("IN", 0, LIGHT);
     sample(0, 100);
     ticks(1);
     for (uint64_t i = 0; i < count; i++) frame(0x01, 0, 0x8C);
@@ -50,7 +50,7 @@ static void queries(uint64_t count)
 
 static void reports(uint64_t count)
 {
-    for (unsigned i = 0; i < INSTANCES; i++) declare(i, LIGHT);
+    for (unsigned i = 0; i < INSTANCES; i++) declare("IN", i, LIGHT);
     frame(0xC1, 0x30, 1);
     for (unsigned i = 0; i < INSTANCES; i++) {
         frame(0x01, i, 0x30);
@@ -70,11 +70,24 @@ static unsigned below(unsigned n)
     return (unsigned)((z ^ z >> 31) >> 33) % n;
 }
 
+/* Of six instances one is presence-based, one movement-based, and four are light. */
+static void declare_mixed(unsigned instance)
+{
+    if (instance % 3 != 0) declare("IN", instance, LIGHT);
+    else declare(instance % 2 == 0 ? "IN" : "IM", instance, OCCUPANCY);
+}
+
+static unsigned any_value(unsigned instance)
+{
+    return below(instance % 3 != 0 ? 1023 : instance % 2 == 0 ? 4 : 2);
+}
+
 static void mixed(uint64_t seed, uint64_t shift)
 {
-    static const uint8_t opcodes[] = {0x22, 0x23, 0x2C, 0x2E, 0x30, 0x31, 0x32, 0x3C, 0x3D, 0x3E, 0x3F, 0x62, 0x68, 0x80, 0x81, 0x83, 0x8C, 0x8D, 0x90};
+    static const uint8_t opcodes[] = {0x20, 0x21, 0x22, 0x23, 0x24, 0x2C, 0x2D, 0x2E, 0x2F, 0x30, 0x31, 0x32, 0x3C, 0x3D, 0x3E, 0x3F,
+                                      0x62, 0x68, 0x80, 0x81, 0x83, 0x8C, 0x8D, 0x90};
     chance = seed;
-    for (unsigned i = 0; i < INSTANCES; i++) declare(i, i % 3 == 0 ? OCCUPANCY : LIGHT);
+    for (unsigned i = 0; i < INSTANCES; i++) declare_mixed(i);
     for (uint64_t i = 0; i < shift; i++) ticks(1);
     for (unsigned i = 0; i < MIXED_RECORDS; i++) {
         unsigned instance = below(INSTANCES);
@@ -82,7 +95,7 @@ static void mixed(uint64_t seed, uint64_t shift)
         case 0: ticks(1 + below(below(50) == 0 ? 2000 : 3)); break;
         case 1: frame(0x01, instance, opcodes[below(sizeof opcodes)]); break;
         case 2: frame(0xC1, 0x30, (uint8_t)below(4)); break;
-        default: sample(instance, instance % 3 == 0 ? below(4) : below(1023)); break;
+        default: sample(instance, any_value(instance)); break;
         }
     }
 }

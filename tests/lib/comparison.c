@@ -113,7 +113,7 @@ static unsigned first_difference(const uint8_t *a, const uint8_t *b, size_t writ
 
 static size_t print_session_record(const uint8_t *r, size_t left)
 {
-    if (left >= 5 && (memcmp(r, "IN", 2) == 0 || memcmp(r, "LO", 2) == 0))
+    if (left >= 5 && (memcmp(r, "IN", 2) == 0 || memcmp(r, "LO", 2) == 0 || memcmp(r, "IM", 2) == 0))
         return printf("%.2s %u type %u resolution %u", (const char *)r, r[2], r[3], r[4]), 5;
     if (left >= 7 && memcmp(r, "SA", 2) == 0) return printf("SA %u status %u value %lu", r[2], r[3], number_at(r + 4, 3)), 7;
     if (left >= 5 && memcmp(r, "FR", 2) == 0) return printf("FR %02X %02X %02X", r[2], r[3], r[4]), 5;

@@ -11,7 +11,7 @@ typedef enum { IN, LO, IM, MARKS } mark;
 
 /* The turns of profile f: the first ones each declare another sensor, most of which are not modelled, the last ones an instance too
  * many. */
-enum { DAMAGED_TURNS = 54, SENSORS = 8, UNMODELLED_TURNS = SENSORS * MARKS, FULL_TURNS = 6 };
+enum { DAMAGED_TURNS = 72, SENSORS = 8, UNMODELLED_TURNS = SENSORS * MARKS, FULL_TURNS = 6 };
 
 /* The values of movement-based occupancy. */
 enum { EMPTY = 0, STILL = 2, MOVING = 3 };
@@ -486,15 +486,16 @@ static void unmodelled(generator *g, unsigned turn)
     put_declaration(g, (mark)(turn % MARKS), g->declared, sensor[0], sensor[1]);
 }
 
-/* What would be taken, but that a record of another kind comes before it; sometimes the session ends in it. */
+/* What would be taken, but that a record of another kind comes before it; sometimes it is not modelled either, and sometimes the
+ * session ends in it. */
 static void late_declaration(generator *g)
 {
     put_fr(g, 0x01, 0x00, any_query(g));
     size_t start = g->len;
     mark by = any_mark(g);
-    if (by == IM) put_declaration(g, by, g->declared, OCCUPANCY, 2);
-    else put_declaration(g, by, g->declared, LIGHT, 1 + below(g, 24));
-    if (chance(g, 40)) cut(g, start);
+    bool occupancy = (by == IM) == chance(g, 75);
+    put_declaration(g, by, g->declared, occupancy ? OCCUPANCY : LIGHT, occupancy ? 2 : 1 + below(g, 24));
+    if (chance(g, 50)) cut(g, start);
 }
 
 /* The largest value that a valid sample may have. */
@@ -648,7 +649,7 @@ static void damaged(generator *g, unsigned turn)
     bool full = turn >= DAMAGED_TURNS - FULL_TURNS;
     declare_any(g, full ? INSTANCES : below(g, 4));
     if (full || turn < UNMODELLED_TURNS) unmodelled(g, turn % UNMODELLED_TURNS);
-    else if (chance(g, 35)) late_declaration(g);
+    else if (chance(g, 30)) late_declaration(g);
     MIX(g, below(g, 6), step_move, step_query, step_bad, step_noise, step_set);
     MIX(g, 1 + below(g, 4), step_bad);
     if (chance(g, 30)) damage(g);
@@ -1161,7 +1162,9 @@ static void recover(generator *g, unsigned number)
 /* Ticks about the one at which the hold expires; before that, at times, something that changes it, or does not. */
 static void pass_expiry(generator *g, unsigned number)
 {
+    if (chance(g, 20)) put_command(g, number, 0x63);
     begin_hold(g, number);
+    if (chance(g, 50)) put_command(g, number, 0x62);
     if (chance(g, 40)) {
         put_tk(g, below(g, 15));
         interfere_by_ticks(g, number, 1 + below(g, 2));
@@ -1201,11 +1204,15 @@ static void pass_catching(generator *g, unsigned number)
     ask_movement(g, number);
 }
 
-/* An opcode of movement-based occupancy to any instance, and then samples for it that tell. */
+/* An opcode of movement-based occupancy to any instance, to presence most often while it is occupied without movement, and then
+ * samples for it that tell. */
 static void pass_by_others(generator *g)
 {
     unsigned number = any_instance(g);
-    put_command(g, number, ONE_OF(g, 0x20, 0x20, 0x21, 0x24, 0x2D, 0x2F));
+    while (g->instance[number].by == IM && chance(g, 60)) number = any_instance(g);
+    if (g->instance[number].type == OCCUPANCY && g->instance[number].by == IN) put_sa(g, number, 0, 2), put_tk(g, 3);
+    put_command(g, number, ONE_OF(g, 0x20, 0x20, 0x21, 0x24, 0x24, 0x2D, 0x2F));
+    put_tk(g, below(g, 3));
     for (unsigned i = 1 + below(g, 3); i > 0; i--) {
         sample(g, number);
         put_tk(g, 1 + below(g, 2));
@@ -1223,23 +1230,28 @@ static void movement_round(generator *g)
     }
 }
 
-/* Settings by which holds end within the session, and events show. */
+/* Settings by which holds end within the session, and events show; at times reports before the first sample. */
 static void settle_movement(generator *g, unsigned number)
 {
     set_to(g, number, 0x21, (uint8_t)ONE_OF(g, 0, 0, 0, 0, 1));
     if (chance(g, 70)) set_to(g, number, 0x68, telling_filter(g));
+    if (chance(g, 15)) set_to(g, number, 0x68, 0x04), set_to(g, number, 0x22, 0), set_to(g, number, 0x22, 1), put_tk(g, 21);
     if (chance(g, 50)) set_times(g, number, (uint8_t)ONE_OF(g, 0, 0, 1, 5, 25), (uint8_t)ONE_OF(g, 0, 1, 2));
 }
 
-/* A sample that is not allowed: what does its refusal leave, when the reading goes on? */
+/* A sample that is not allowed, often with hold running and catching: what does its refusal leave, when the reading goes on? */
 static void end_part(generator *g, test_case *c)
 {
     unsigned number = any_movement(g);
+    if (chance(g, 60)) begin_hold(g, number);
+    if (chance(g, 60)) set_to(g, number, 0x68, 0x17), put_command(g, number, 0x20);
     if (chance(g, 60)) put_sa(g, number, 0, 2 + below(g, 2));
     else put_sa(g, number, 1, 0);
     c->before_len = g->len;
     put_tk(g, 1);
     ask_movement(g, number);
+    near_expiry(g, number, 1);
+    interfere_by_ticks(g, number, 2);
 }
 
 /* A hold of many ticks that comes to its end: the default, or the longest. */
@@ -1261,7 +1273,7 @@ static void movement(generator *g, test_case *c)
         long_hold(g);
         return;
     }
-    unsigned rounds = 6 + below(g, 10), parted = chance(g, 20) ? below(g, rounds) : rounds;
+    unsigned rounds = 6 + below(g, 10), parted = chance(g, 30) ? below(g, rounds) : rounds;
     declare_movements(g, 1 + below(g, 3), below(g, 3));
     for (unsigned i = 0; i < g->declared; i++) if (g->instance[i].by == IM && chance(g, 90)) settle_movement(g, i);
     for (unsigned i = 0; i < rounds; i++) {
@@ -1307,7 +1319,7 @@ test_case generate(uint64_t seed, char profile)
     case 'c': occupancy_filters(&g); break;
     case 'd': timer_ends(&g); break;
     case 'e': g.work_left = 10000; long_quiet(&g); break;
-    case 'f': damaged(&g, turn_of(seed, DAMAGED_TURNS / 3, 3)); break;
+    case 'f': damaged(&g, turn_of(seed, DAMAGED_TURNS / 4, 4)); break;
     case 'g': c.log_len = below(&g, 401); short_output(&g); break;
     case 'h': last_ticks(&g, &c); break;
     case 'i': far_ticks(&g, &c); break;

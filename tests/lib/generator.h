@@ -11,7 +11,7 @@
  *   c  occupancy, by IN or by IM: all filters
  *   d  timers at their ends
  *   e  long quiet runs
- *   f  damaged, cut and random bytes; and declarations that are refused, by IN, LO and IM, all of them within 300 seeds
+ *   f  damaged, cut and random bytes; and declarations that are refused, by IN, LO and IM, all of them within 400 seeds
  *   g  outputs of 0 to 400 bytes
  *   h  ticks near 4,294,967,295
  *   i  tick numbers of four bytes

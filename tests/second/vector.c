@@ -1,4 +1,4 @@
-/* Checks the second implementation against the values that document 01 prints and against a session worked out by hand, and that
+/* Checks the second implementation against the values that document 01 prints and against two sessions worked out by hand, and that
  * reading in pieces is reading the whole. */
 #include "../lib/comparison.h"
 #include "../lib/generator.h"
@@ -59,9 +59,79 @@ static const uint8_t TWO_RULES_LOG[] = {
     'A', 'N', 0, 0, 0, 61, 1, 0x1B,
 };
 
+/* M-100: IM, and IN beside it. Hold 0 is 20 ticks, filter 17 is all but Movement, deadtime is 2 and report 400 ticks.
+ *   tick 1    movement: FF. Occupied is sent, 1011
+ *   tick 2    none: AA, and hold up to tick 22. No movement waits in dead time. Catch movement
+ *   tick 3    it is sent, 1010, and catching stays
+ *   tick 22   hold expires at a tick with movement: FF, and no Vacant. Movement was caught and is sent, 1011; catching ends
+ *   tick 23   none: AA, and hold up to tick 43. No movement waits in dead time
+ *   tick 24   a failure clears that; hold expires in it
+ *   tick 44   valid, without movement: 00. Vacant is sent, 1000
+ *   tick 45   movement: FF. Occupied waits in dead time; Movement does not
+ *   tick 46   none: AA, and No movement. Both are sent, 1010. Cancel hold
+ *   tick 47   00. Vacant waits in dead time
+ *   tick 48   it is sent, 1000. Cancel hold, where none runs
+ *   tick 49   presence that is occupied with movement: its bit 3 is 0, and 2D gets no answer
+ *   tick 448  the report of tick 48, 1100 */
+static const uint8_t MOVEMENT_SESSION[] = {
+    'I', 'M', 0, 3, 2,
+    'I', 'N', 1, 3, 2,
+    'F', 'R', 0x01, 0, 0x21,
+    'F', 'R', 0xC1, 0x30, 0x17,
+    'F', 'R', 0x01, 0, 0x68,
+    'S', 'A', 0, 0, 0, 0, 1,
+    'T', 'K', 0, 1,
+    'S', 'A', 0, 0, 0, 0, 0,
+    'T', 'K', 0, 1,
+    'F', 'R', 0x01, 0, 0x20,
+    'F', 'R', 0x01, 0, 0x2F,
+    'T', 'K', 0, 19,
+    'S', 'A', 0, 0, 0, 0, 1,
+    'T', 'K', 0, 1,
+    'F', 'R', 0x01, 0, 0x2F,
+    'S', 'A', 0, 0, 0, 0, 0,
+    'T', 'K', 0, 1,
+    'S', 'A', 0, 2, 0, 0, 0,
+    'T', 'K', 0, 20,
+    'F', 'R', 0x01, 0, 0x8C,
+    'S', 'A', 0, 0, 0, 0, 0,
+    'T', 'K', 0, 1,
+    'F', 'R', 0x01, 0, 0x8C,
+    'S', 'A', 0, 0, 0, 0, 1,
+    'T', 'K', 0, 1,
+    'S', 'A', 0, 0, 0, 0, 0,
+    'T', 'K', 0, 1,
+    'F', 'R', 0x01, 0, 0x24,
+    'F', 'R', 0x01, 0, 0x8C,
+    'T', 'K', 0, 1,
+    'F', 'R', 0x01, 0, 0x8C,
+    'T', 'K', 0, 1,
+    'F', 'R', 0x01, 0, 0x24,
+    'F', 'R', 0x01, 0, 0x2D,
+    'F', 'R', 0x01, 1, 0x2D,
+    'S', 'A', 1, 0, 0, 0, 3,
+    'T', 'K', 1, 144,
+};
+static const uint8_t MOVEMENT_LOG[] = {
+    'E', 'V', 0, 0, 0, 1, 0, 4, 0, 0x0B,
+    'A', 'N', 0, 0, 0, 2, 0, 0xFF,
+    'E', 'V', 0, 0, 0, 3, 0, 4, 0, 0x0A,
+    'E', 'V', 0, 0, 0, 22, 0, 4, 0, 0x0B,
+    'A', 'N', 0, 0, 0, 43, 0, 0xAA,
+    'E', 'V', 0, 0, 0, 44, 0, 4, 0, 0x08,
+    'A', 'N', 0, 0, 0, 44, 0, 0x00,
+    'E', 'V', 0, 0, 0, 46, 0, 4, 0, 0x0A,
+    'A', 'N', 0, 0, 0, 46, 0, 0xAA,
+    'A', 'N', 0, 0, 0, 47, 0, 0x00,
+    'E', 'V', 0, 0, 0, 48, 0, 4, 0, 0x08,
+    'A', 'N', 0, 0, 0, 48, 0, 0x00,
+    'E', 'V', 0, 0, 0, 49, 1, 4, 0, 0x03,
+    'E', 'V', 0, 0, 1, 192, 0, 5, 0, 0x0C,
+};
+
 static bool session_gives(const uint8_t *session, size_t session_len, const uint8_t *expected, size_t expected_len)
 {
-    uint8_t log[128];
+    uint8_t log[256];
     memset(log, 0xA5, sizeof log);
     second_reading r = second_session(session, session_len, log, sizeof log);
     return r.number == 0 && r.offset == session_len && r.written == expected_len && r.ticks == 0 &&
@@ -76,6 +146,11 @@ static bool full_session_agrees(void)
 static bool two_rules_agree(void)
 {
     return session_gives(TWO_RULES_SESSION, sizeof TWO_RULES_SESSION, TWO_RULES_LOG, sizeof TWO_RULES_LOG);
+}
+
+static bool movement_agrees(void)
+{
+    return session_gives(MOVEMENT_SESSION, sizeof MOVEMENT_SESSION, MOVEMENT_LOG, sizeof MOVEMENT_LOG);
 }
 
 /* "Marked table": Width and Information, as a light instance shows them. `marked` is inputValue and then the information. */
@@ -134,6 +209,7 @@ int main(void)
     bool good = report("document 01, full session", full_session_agrees());
     good = report("document 01, marked widths and informations", marked_table_agrees()) && good;
     good = report("IN and LO side by side, worked out by hand", two_rules_agree()) && good;
+    good = report("IM, worked out by hand", movement_agrees()) && good;
     good = report("1000 sessions in pieces", pieces_agree(1000)) && good;
     return good ? 0 : 1;
 }
