@@ -495,7 +495,7 @@ static void late_declaration(generator *g)
     mark by = any_mark(g);
     bool occupancy = (by == IM) == chance(g, 75);
     put_declaration(g, by, g->declared, occupancy ? OCCUPANCY : LIGHT, occupancy ? 2 : 1 + below(g, 24));
-    if (chance(g, 50)) cut(g, start);
+    if (chance(g, 60)) cut(g, start);
 }
 
 /* The largest value that a valid sample may have. */
@@ -509,11 +509,11 @@ static void bad_sa(generator *g)
 {
     unsigned number = any_instance(g);
     const sketch *s = &g->instance[number];
-    switch (below(g, 7)) {
-    case 0: put_sa(g, g->declared + below(g, 2) * 16, ONE_OF(g, 0, 1, 2, 3, 255), below(g, 5)); break;
-    case 1: put_sa(g, number, ONE_OF(g, 3, 4, 255), 0); break;
-    case 2: put_sa(g, number, 1, 0); break;
-    case 3: put_sa(g, number, 1 + below(g, 2), ONE_OF(g, 1, 0x100, 0x10000, 0xFFFFFF)); break;
+    switch (below(g, 9)) {
+    case 0: case 1: put_sa(g, g->declared + below(g, 2) * 16, ONE_OF(g, 0, 1, 2, 3, 255), below(g, 5)); break;
+    case 2: put_sa(g, number, ONE_OF(g, 3, 4, 255), 0); break;
+    case 3: put_sa(g, number, 1, 0); break;
+    case 4: case 5: put_sa(g, number, ONE_OF(g, 1, 2, 2), ONE_OF(g, 1, 0x100, 0x10000, 0xFFFFFF)); break;
     default: put_sa(g, number, 0, valid_most(s) + ONE_OF(g, 0, 1, 1, 2)); break;
     }
 }
@@ -649,7 +649,7 @@ static void damaged(generator *g, unsigned turn)
     bool full = turn >= DAMAGED_TURNS - FULL_TURNS;
     declare_any(g, full ? INSTANCES : below(g, 4));
     if (full || turn < UNMODELLED_TURNS) unmodelled(g, turn % UNMODELLED_TURNS);
-    else if (chance(g, 30)) late_declaration(g);
+    else if (chance(g, 35)) late_declaration(g);
     MIX(g, below(g, 6), step_move, step_query, step_bad, step_noise, step_set);
     MIX(g, 1 + below(g, 4), step_bad);
     if (chance(g, 30)) damage(g);
