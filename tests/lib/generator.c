@@ -21,7 +21,7 @@ enum { EMPTY = 0, STILL = 2, MOVING = 3 };
 typedef struct {
     uint8_t type, resolution;
     mark by; /* declared by LO, its band is on the input value; by IM, it is movement-based */
-    uint8_t hysteresis, hysteresis_min, deadtime, report, filter;
+    uint8_t hysteresis, hysteresis_min, deadtime, report;
     uint32_t base; /* a value that the band may begin from */
     bool had_valid; /* light: status 1 is refused from now on */
     /* movement-based */
@@ -165,7 +165,6 @@ static void declare(generator *g, mark by, unsigned type, unsigned resolution)
         .hysteresis_min = least,
         .deadtime = light ? 30 : 2,
         .report = light ? 30 : 20,
-        .filter = light ? 1 : 3,
         .hold = 90,
     };
     put_declaration(g, by, g->declared, type, resolution);
@@ -295,7 +294,6 @@ static void remember(generator *g, unsigned number, unsigned opcode, uint8_t dtr
     case 0x24: if (s->value == STILL) s->expires = g->tick + 1; break;
     case 0x31: s->hysteresis = dtr0; break;
     case 0x33: s->hysteresis_min = dtr0; break;
-    case 0x68: s->filter = dtr0; break;
     }
 }
 
@@ -477,8 +475,8 @@ static void bad_declaration(generator *g)
     }
 }
 
-/* A type and a resolution by each mark, with the next number. Type 3 with resolution 2 is modelled but for LO, type 4 with resolution
- * 2 but for IM; the others are not. */
+/* A type and a resolution by each mark, with the next number. Type 3 with resolution 2 is modelled but for LO, type 4 with
+ * resolution 2 but for IM; the others are not. */
 static void unmodelled(generator *g, unsigned turn)
 {
     static const uint8_t sensors[SENSORS][2] = {{2, 2}, {3, 1}, {3, 2}, {3, 8}, {4, 0}, {4, 2}, {4, 25}, {5, 24}};
@@ -709,13 +707,14 @@ static void settle(generator *g, unsigned number, unsigned deadtime)
     bool light = g->instance[number].type == LIGHT, movement = g->instance[number].by == IM;
     put_command(g, number, 0x62);
     set_to(g, number, 0x61, 3);
-    set_to(g, number, 0x68, light ? 1 : (uint8_t)(movement ? ONE_OF(g, 0x17, 0x1F, 0x1F) : ONE_OF(g, 0x07, 0x0F, 0x17, 0x1F)));
+    uint32_t filter = movement ? ONE_OF(g, 0x17, 0x1F, 0x1F) : ONE_OF(g, 0x07, 0x0F, 0x17, 0x1F);
+    set_to(g, number, 0x68, light ? 1 : (uint8_t)filter);
     set_times(g, number, (uint8_t)deadtime, 1);
     if (light) set_to(g, number, 0x31, (uint8_t)ONE_OF(g, 1, 10, 25));
 }
 
-/* Samples that are a change for certain: light from one end of its range to the other, presence between occupied and vacant, movement
- * that comes or goes. */
+/* Samples that are a change for certain: light from one end of its range to the other, presence between occupied and vacant,
+ * movement that comes or goes. */
 static void swing(generator *g, pair p)
 {
     sketch *light = &g->instance[p.light], *occupancy = &g->instance[p.occupancy];
@@ -781,8 +780,8 @@ static void turn(generator *g, pair p, unsigned byte)
     put_tk(g, p.deadtime - 1);
 }
 
-/* Sixteen third bytes in a row, in sixteen turns to light and presence and then to light and movement-based occupancy. Where a swing
- * and its dead time come first, the later ones go the other way. */
+/* Sixteen third bytes in a row: in sixteen turns all, to light and presence, and in sixteen more to light and movement-based
+ * occupancy. Where a swing and its dead time come first, the later ones go the other way. */
 static void third_bytes(generator *g, unsigned turns)
 {
     unsigned light = below(g, 2);
@@ -1184,8 +1183,8 @@ static void begin_dead_time(generator *g, unsigned number, uint8_t deadtime)
     put_tk(g, 1);
 }
 
-/* Catch movement in any of the three values, with bit 3 or without, now and then in dead time; then movement that comes and goes, and what
- * does not catch it. */
+/* Catch movement in any of the three values, with bit 3 or without, often in dead time; then movement that comes and goes, and
+ * what drops it. */
 static void pass_catching(generator *g, unsigned number)
 {
     uint8_t filter = telling_filter(g);

@@ -197,6 +197,8 @@
     X(EXPIRY_WANTS_FILTER, "hold expiry waits for filter bit 1") \
     X(EMPTY_IN_FAILURE, "hold expiry in a failure goes to 0x00 at once, without Vacant") \
     X(EXPIRY_LOST_IN_FAILURE, "hold expiry in a failure lost: 0xAA stays") \
+    X(FAILED_EXPIRY_BEATS_MOVEMENT, "hold that expired in a failure goes to 0x00 behind it with movement too") \
+    X(FAILED_EXPIRY_UNSAID, "hold that expired in a failure goes to 0x00 behind it without Vacant") \
     X(FAILURE_STOPS_HOLD, "failure stops a running hold: 0xAA stays") \
     X(FAILURE_STARTS_HOLD, "failure starts a running hold again") \
     X(FAILURE_ENDS_HOLD, "failure ends a running hold") \
