@@ -1272,7 +1272,7 @@ static void movement(generator *g, test_case *c)
         long_hold(g);
         return;
     }
-    unsigned rounds = 6 + below(g, 10), parted = chance(g, 30) ? below(g, rounds) : rounds;
+    unsigned rounds = 10 + below(g, 10), parted = chance(g, 30) ? below(g, rounds) : rounds;
     declare_movements(g, 1 + below(g, 3), below(g, 3));
     for (unsigned i = 0; i < g->declared; i++) if (g->instance[i].by == IM && chance(g, 90)) settle_movement(g, i);
     for (unsigned i = 0; i < rounds; i++) {
