@@ -6,4 +6,5 @@ pub mod Demand3
 pub mod Hours
 pub mod Streams
 pub mod Texts
+pub mod Movement
 pub mod Unique

@@ -5,3 +5,4 @@ pub mod Window
 pub mod Numbers
 pub mod Streams
 pub mod Texts
+pub mod Movement

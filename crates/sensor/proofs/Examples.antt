@@ -1,10 +1,12 @@
--- Worked examples by computation: IEC 62386-303, Table 11.
+-- Worked examples by computation: IEC 62386-303, Table 11 and, of the movement-based sensor, Figure 2.
 -- Assumes nothing.
 use Prim.Native.Nat.{ℕ, _+_}
 use Rattle.sensor.proofs.Table.{each}
+use Rattle.sensor.specs.Movement.{area, stilled}
 use Rattle.sensor.specs.Occupancy.{change, occupancyInput, triggers}
 use Rattle.widen.specs.Width.{widened}
-use lib.Dec.{eqb, eqb→eq}
+use lib.Dec.{T, eqb, eqb→eq}
+use mathlib.Core.Bool.{Bool, false, true, _&&_}
 use mathlib.Core.List.{List, List·Memᴰ, [], map, _∷_}
 use mathlib.Core.Path.{_≡_, refl}
 
@@ -53,3 +55,33 @@ table-11 t m = eqb→eq (triggers (t .old) (t .new)) (t .fires) (each (λ (u : T
 states : map (λ (v : ℕ). occupancyInput (record { value = v; waiting = 0 })) (0 ∷ 1 ∷ 2 ∷ 3 ∷ []) ≡ (0x00 ∷ 0x55 ∷ 0xAA ∷ 0xFF ∷ [])
 unfolding occupancyInput widened
 states = refl
+
+-- ---- Figure 2: from a state, with movement or without, the hold time over or not, to a state, with the triggers of Table 11
+record Moved : Type 0 where
+  from : ℕ
+  moves : Bool
+  over : Bool
+  to : ℕ
+  fires : ℕ
+
+abbrev moved : (from : ℕ) → (moves over : Bool) → (to fires : ℕ) → Moved
+moved from moves over to fires = record { from = from; moves = moves; over = over; to = to; fires = fires }
+
+unfoldable figure2 : List Moved
+figure2 =
+    moved 0 true true 3 (occupied + movement)
+    ∷ moved 0 false true 0 0
+    ∷ moved 3 true true 3 0
+    ∷ moved 3 false true 2 no-movement
+    ∷ moved 2 true false 3 movement
+    ∷ moved 2 true true 3 movement
+    ∷ moved 2 false false 2 0
+    ∷ moved 2 false true 0 vacant
+    ∷ []
+
+goes : Moved → Bool
+goes t = eqb (area (t .from) (t .moves) (t .over)) (t .to) && eqb (triggers (t .from) (t .to)) (t .fires)
+
+figure-2 : (t : Moved) → List·Memᴰ t figure2 → T (goes t)
+unfolding figure2 goes area stilled triggers change
+figure-2 = each goes figure2 tt

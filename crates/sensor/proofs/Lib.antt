@@ -8,4 +8,6 @@ pub mod Fresh
 pub mod Measured
 pub mod Reporting
 pub mod Texts
+pub mod Hold
+pub mod Catching
 pub mod Unique

@@ -1,12 +1,14 @@
 -- Where nothing holds it back, an instance sends what it has: the converse of what `Laws` says of every event.
 -- Assumes nothing.
-use Prim.Native.Nat.{_%_, _<_}
+use Prim.Native.Nat.{_%_, _-_, _<_}
 use Rattle.sensor.proofs.Laws.{decision-made}
 use Rattle.sensor.specs.Kind.{cause, repeat, rules, taken}
+use Rattle.sensor.specs.Movement.{letting, movementCause, movementTaken, shown}
 use Rattle.sensor.specs.Occupancy.{occupancyCause, occupancyTaken, triggers, waits}
 use Rattle.sensor.specs.Tick.{decisionAt, takenKind, valid}
 use Rattle.sensor.specs.declared.instance.Instance.{Instance}
-use Rattle.sensor.specs.declared.kind.Kind.the-variants.{Occupancy}
+use Rattle.sensor.specs.declared.kind.Kind.the-variants.{Movement, Occupancy}
+use Rattle.sensor.specs.declared.movement.Movement.{Movement as MovementState}
 use Rattle.sensor.specs.declared.occupancy.Occupancy.{Occupancy as OccupancyState}
 use Rattle.sensor.specs.declared.settings.Sample.{Sample}
 use Rattle.sensor.specs.declared.settings.Settings.{Settings}
@@ -38,3 +40,8 @@ unfolding cause taken occupancyCause occupancyTaken waits
 waiting-cause o s held on ready h =
     let came = bitAnd (triggers (o .value) (held .value % 4)) (s .filter) in
     rw (ready, on, lt-ltb 0 (bitOr (o .waiting) came) (omega (arith, h, or-add-and (o .waiting) came, and-le-r (o .waiting) came)))
+
+-- and so is one of movement, which waits in the presence-based sensor (M-100)
+pub waiting-cause-movement : (m : MovementState) (s : Settings) (held : Sample) → s .enabled ≡ true → eqb (held .status) 0 ≡ true → 0 < m .seen .waiting → cause (taken (Movement m) s held) s ≡ true
+unfolding cause taken letting movementCause movementTaken shown
+waiting-cause-movement m s held on ready h = waiting-cause (m .seen) (letting m s) (shown m held (eqb (m .hold - 1) 0)) on ready h

@@ -9,3 +9,4 @@ pub mod Tick
 pub mod Marked
 pub mod Quiet
 pub mod Text
+pub mod Moving
