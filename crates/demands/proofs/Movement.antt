@@ -64,10 +64,10 @@ hold-lasts {i} m p left a (tick ∷ hs) s h =
     subst (Area _ 2) rest (hold-lasts (tickModel m) (happen-present m tick p) (left - 1) (rw (ticked-own p) falls) hs (s .1) (omega arith))
 
 -- and with the last of them it is at 0x00
-still-before : {i : ℕ} (m : Model) (hs : List Happening) → StillAll i m (hs ++ (tick ∷ [])) → StillAll i m hs × StillAll i (modelAfter m hs) (tick ∷ [])
+still-before : (i : ℕ) (m : Model) (hs : List Happening) → StillAll i m (hs ++ (tick ∷ [])) → StillAll i m hs × StillAll i (modelAfter m hs) (tick ∷ [])
 unfolding modelAfter
-still-before m [] s = (tt, s)
-still-before m (h ∷ hs) s = let p = still-before (happen m h) hs (s .1) in ((s .0, p .0), p .1)
+still-before i m [] s = (tt, s)
+still-before i m (h ∷ hs) s = let p = still-before i (happen m h) hs (s .1) in ((s .0, p .0), p .1)
 
 run-present : {i : ℕ} (m : Model) (hs : List Happening) → Present i m → Present i (modelAfter m hs)
 unfolding modelAfter
@@ -82,7 +82,7 @@ run-tick m (h ∷ hs) = run-tick (happen m h) hs
 pub hold-expires : {i : ℕ} (m : Model) → Present i m → (left : ℕ) → Area (instanceAt m i .kind) 2 left → (hs : List Happening)
     → StillAll i m (hs ++ (tick ∷ [])) → ticksIn hs + 1 ≡ left → Area (instanceAt (modelAfter m (hs ++ (tick ∷ []))) i .kind) 0 0
 hold-expires {i} m p left a hs s e =
-    let still = still-before m hs s in
+    let still = still-before i m hs s in
     let last : left - ticksIn hs ≡ 1 = omega arith in
     let before = subst (Area _ 2) last (hold-lasts m p left a hs (still .0) (omega arith)) in
     rw (run-tick m hs, ticked-own (run-present m hs p)) (tick-expires (instanceAt (modelAfter m hs) i) (still .1 .0 .0) (still .1 .0 .1) before)
