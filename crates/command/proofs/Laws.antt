@@ -15,7 +15,7 @@ use Rattle.opcode.specs.declared.Meaning.{Meaning}
 use Rattle.opcode.specs.declared.Query.the-variants.{QueryNext, QueryValue, QueryVariable}
 use Rattle.opcode.specs.declared.Query.{Query}
 use Rattle.sensor.specs.Fresh.{fresh}
-use Rattle.sensor.specs.Instance.{withKind, withSettings, withTimers}
+use Rattle.sensor.specs.Instance.{withSettings, withTimers}
 use Rattle.sensor.specs.Kind.{allowing, cancelled, caught, kept, repeat, rules, units}
 use Rattle.sensor.specs.Movement.{movementAllowing, movementCancelled, movementCaught, withSeen}
 use Rattle.sensor.specs.Occupancy.{occupancyAllowing}

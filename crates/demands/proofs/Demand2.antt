@@ -44,7 +44,7 @@ use Rattle.ticks.proofs.Ticked.{tick-past}
 use Rattle.ticks.specs.Tick.{tickLog, tickModel}
 use Rattle.timers.specs.Pace.{noted}
 use lib.ListN.{length, take}
-use mathlib.Core.Bool.{Bool, false, true}
+use mathlib.Core.Bool.{Bool, false}
 use mathlib.Core.List.{List, [], _++_, _∷_}
 use mathlib.Core.Logic.{_≢_}
 use mathlib.Core.Path.{refl, _≡_}

@@ -6,26 +6,22 @@ use Rattle.command.proofs.Moving.{act-area, act-owed}
 use Rattle.demands.proofs.Shared.OneInstance.{frame-own, happen-present, held-own, ticked-own}
 use Rattle.demands.specs.Alone.{Present}
 use Rattle.demands.specs.Happenings.{Happening, declare, frame, happen, hold, modelAfter, tick, ticksIn}
-use Rattle.demands.specs.Movement.{StillAll, UncaughtAll, Without, movementsSent}
+use Rattle.demands.specs.Movement.{StillAll, UncaughtAll, movementsSent}
 use Rattle.device.proofs.Laws.{declared-other, held-other}
 use Rattle.device.specs.Device.{heldModel, instanceAt}
 use Rattle.device.specs.declared.model.Model.{Model}
-use Rattle.opcode.specs.declared.Control.the-variants.{CancelHold, CatchMovement}
 use Rattle.sensor.proofs.Catching.{owed-most, tick-owed}
 use Rattle.sensor.proofs.Hold.{tick-expires, tick-holds, tick-stills}
 use Rattle.sensor.proofs.Laws.{holding-keeps}
-use Rattle.sensor.specs.Kind.{taken}
 use Rattle.sensor.specs.Movement.{holdTime}
-use Rattle.sensor.specs.Moving.{Area, movementGoesOut, moves, owed}
+use Rattle.sensor.specs.Moving.{Area, moves, owed}
 use Rattle.sensor.specs.Tick.{valid}
-use Rattle.sensor.specs.declared.instance.Instance.{Instance}
-use Rattle.sensor.specs.declared.kind.Kind.{Kind}
 use Rattle.sensor.specs.declared.sensors.Sensor.{Sensor}
 use Rattle.sensor.specs.declared.settings.Sample.{Sample}
 use Rattle.ticks.specs.Tick.{tickModel}
 use mathlib.Core.Bool.{false, true}
 use mathlib.Core.List.{List, [], _++_, _∷_}
-use mathlib.Core.Path.{ap, refl, subst, sym, _∙_, _≡_}
+use mathlib.Core.Path.{ap, refl, subst, _∙_, _≡_}
 use native.Mathlib.Decide.{ℕ-discrete}
 use native.Mathlib.Omega.{arith}
 
