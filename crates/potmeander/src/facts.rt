@@ -1,6 +1,6 @@
 // What the sheets say of a session beside the table of its log, as a row of decimal numbers on descriptor 3: how many instances are declared, the tick that
-// was reached, by which number a record was refused and where, whether a read failed, and of each instance its type, its resolution and whether it is light built
-// to the text of 2017 (M-106, M-107).
+// was reached, by which number a record was refused and where, whether a read failed, and of each instance its type, its resolution and whether it is of the
+// sensor's other make (M-100, M-106, M-107).
 use crate::reading::Came;
 use crate::reading::Ran;
 use crate::saying::refused_by;
@@ -40,16 +40,17 @@ fn types(model: Model) {
         let kind = x.kind;
         number(kind.sensor_type() as u64);
         number(kind.resolution() as u64);
-        number(of_2017(kind));
+        number(other_make(kind));
         i += 1;
     }
 }
 
-// 1 of light built to the text of 2017, else 0.
-fn of_2017(kind: Kind) -> u64 {
+// 1 of the sensor's other make: light built to the text of 2017, occupancy that is movement-based; else 0.
+fn other_make(kind: Kind) -> u64 {
     match kind {
         Kind::Light(light) => padded(light),
         Kind::Occupancy(_) => 0,
+        Kind::Movement(_) => 1,
     }
 }
 

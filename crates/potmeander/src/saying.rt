@@ -53,14 +53,14 @@ fn refused(number: u8, offset: u64) {
     }
 }
 
-// Document 01, "Numbers given when a record is not taken", with M-106, M-107 and M-110.
+// Document 01, "Numbers given when a record is not taken", with M-100, M-106, M-107 and M-110.
 fn words_of(number: u8) {
     match number {
         1 => write(b", mark unknown"),
         2 => write(b", fewer bytes remain than the mark, or the record, needs"),
-        3 => write(b", IN or LO after a record of another kind, or its number isn't the next"),
+        3 => write(b", IN, LO or IM after a record of another kind, or its number isn't the next"),
         4 => write(
-            b", IN or LO number 16 or above, or a type and resolution that it does not declare",
+            b", IN, LO or IM number 16 or above, or a type and resolution that it does not declare",
         ),
         5 => write(b", SA for an undeclared instance"),
         6 => write(b", SA status or value not allowed"),

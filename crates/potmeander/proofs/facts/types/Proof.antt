@@ -38,8 +38,8 @@ cast-number-2 c = search needs
 number-requires-2 : tie.Need-number-requires-2 Inv-loop μ-loop
 number-requires-2 c κs = search needs
 
-of-2017-requires : tie.Need-of-2017-requires Inv-loop μ-loop
-of-2017-requires c κs = search needs
+other-make-requires : tie.Need-other-make-requires Inv-loop μ-loop
+other-make-requires c κs = search needs
 
 number-requires-3 : tie.Need-number-requires-3 Inv-loop μ-loop
 number-requires-3 c κs = search needs
@@ -71,7 +71,7 @@ types-spec =
     resolution-requires
     cast-number-2
     number-requires-2
-    of-2017-requires
+    other-make-requires
     number-requires-3
     add-i
     loop-less
