@@ -10,6 +10,7 @@ cd "${1:-$here}"
 occupancy=3 light=4
 valid=0 unready=1 failed=2
 vacant=0 still=2 moving=3  # an occupancy value: bit 0 movement, bit 1 occupied
+nothing=0 movement=1  # of a movement-based one: bit 0 alone
 seconds() { echo $(($1 * 20)); }
 
 # ---- document 01, "A full session, bytes in hex"
@@ -209,14 +210,150 @@ texts() {
     done
 }
 
+# ---- an hour under infrared, 72,000 ticks: instances 0 and 1 movement-based, 0 as declared, 1 with hold 1 and all triggers; instance 2 presence-based, in the same
+# room. Hold: 90 x 200 ticks, and 200 ticks
+up_to() { TK $(($1 - reached)) && reached=$1; }  # ticks, to tick $1
+
+infrared() {
+    reached=0
+    IM 0 $occupancy 2
+    IM 1 $occupancy 2
+    IN 2 $occupancy 2
+    FR 01 00 80  # the type: 3, as for presence
+    FR 01 00 2D  # hold: 90
+    FR 01 00 2F  # it is not catching, and does not answer
+    FR 01 02 2D  # presence has no hold, and does not answer
+    set_to 01 01 21  # instance 1: hold 1,
+    FR 01 01 2D
+    set_to 1B 01 68  # and it sends Occupied, Vacant, Movement and No movement
+    FR 01 01 90
+    up_to 1200
+    FR 01 00 8C  # vacant: 00
+
+    # somebody comes: at tick 1201 all three are occupied. Instance 1 has two triggers, and one event of them
+    SA 0 $valid $movement
+    SA 1 $valid $movement
+    SA 2 $valid $moving
+    up_to 1300
+
+    # and sits down: at 1301 the holds start, to 19301 and to 1501
+    SA 0 $valid $nothing
+    SA 1 $valid $nothing
+    SA 2 $valid $still
+    up_to 1500
+    FR 01 00 8C  # occupied without movement: AA,
+    FR 01 01 8C  # both
+    up_to 1501  # instance 1 is vacant
+    FR 01 01 8C
+
+    # gets up: at 6001 instance 0 is occupied with movement again, and was not vacant between: Movement alone, which its filter holds back
+    up_to 6000
+    SA 0 $valid $movement
+    SA 1 $valid $movement
+    SA 2 $valid $moving
+    up_to 6020
+    FR 01 00 8C  # FF
+
+    # and leaves: presence is vacant at 6021. The holds start anew, to 24021 and to 6221
+    SA 0 $valid $nothing
+    SA 1 $valid $nothing
+    SA 2 $valid $vacant
+    up_to 19301  # where the first hold of instance 0 would have ended
+    FR 01 00 8C
+    up_to 24020
+    FR 01 00 8C  # still AA,
+    up_to 24021
+    FR 01 00 8C  # and vacant
+
+    # somebody looks in: holds from 26441 on, to 44441 and to 26641
+    up_to 26400
+    SA 0 $valid $movement
+    SA 1 $valid $movement
+    SA 2 $valid $moving
+    up_to 26440
+    SA 0 $valid $nothing
+    SA 1 $valid $nothing
+    SA 2 $valid $vacant
+
+    # instance 0 fails before its hold ends, and is back after that: vacant at the first valid tick
+    up_to 40000
+    SA 0 $failed 0
+    up_to 44500
+    FR 01 00 82  # its error byte
+    FR 01 00 83  # its status: failed and enabled
+    FR 01 00 8C  # its value: AA
+    SA 0 $valid $nothing
+    up_to 44501
+    FR 01 00 8C
+
+    # a hold that is cancelled: from 48021 on, and it ends at 48121 and not at 66021
+    up_to 48000
+    SA 0 $valid $movement
+    up_to 48020
+    SA 0 $valid $nothing
+    up_to 48120
+    FR 01 00 24  # cancel hold
+    FR 01 00 8C  # not before the next tick
+    up_to 48121
+    FR 01 00 8C
+    FR 01 00 24  # none runs: nothing
+
+    # movement caught: of four times that there is some, instance 0 sends the first, Occupied, and the third, Movement, which was asked for
+    up_to 50400
+    SA 0 $valid $movement
+    up_to 50420
+    SA 0 $valid $nothing
+    up_to 50440
+    SA 0 $valid $movement
+    up_to 50460
+    SA 0 $valid $nothing
+    up_to 50480
+    FR 01 00 20  # catch movement
+    FR 01 00 2F  # it is catching: FF
+    up_to 50500
+    SA 0 $valid $movement
+    up_to 50501
+    FR 01 00 2F  # caught: no answer
+    up_to 50520
+    SA 0 $valid $nothing
+    up_to 50540
+    SA 0 $valid $movement
+    up_to 50560
+    SA 0 $valid $nothing  # the hold of 50561 ends at 68561
+
+    # instance 1, hold from 52821 on: movement at 53021, the tick where it would end, and for that tick alone. The hold starts anew at 53022 and ends at 53222; the
+    # event of No movement waits for the end of dead time, 53023
+    up_to 52800
+    SA 1 $valid $movement
+    up_to 52820
+    SA 1 $valid $nothing
+    up_to 53020
+    SA 1 $valid $movement
+    up_to 53021
+    SA 1 $valid $nothing
+
+    # hold 0 is 20 ticks, and 255 leaves it so: from 60011 on, to 60031
+    up_to 60000
+    set_to 00 01 21
+    set_to FF 01 21
+    FR 01 01 2D
+    SA 1 $valid $movement
+    up_to 60010
+    SA 1 $valid $nothing
+    up_to 72000
+    FR 01 00 8C
+}
+
 # ---- one session for each refusal
 refused_1() { IN 0 $light 8 && printf XX; }                      # no such mark
 refused_2() { IN 0 $light 8 && printf 'TK\000'; }                # a record cut short
 refused_3() { IN 0 $light 8 && TK 1 && IN 1 $occupancy 2; }      # too late to declare
 refused_4() { IN 0 $light 25; }                                  # light has 1 to 24 bits
 refused_4_lo() { LO 0 $occupancy 2; }                            # LO declares light alone
+refused_4_im() { IM 0 $light 8; }                                # IM declares occupancy alone
 refused_5() { IN 0 $light 8 && SA 1 $valid 100; }                # only instance 0 is there
 refused_6() { IN 0 $light 8 && SA 0 $valid 255; }                # 8 bits: 0 to 254
+refused_6_im() { IM 0 $occupancy 2 && SA 0 $valid $still; }      # it is told of movement alone
 refused_7() { IN 0 $light 8 && SA 0 $valid 100 && TK 1 && TK 0; }  # no ticks; what came before is logged
 
 # to the last tick number that there is, which is 65,537 records; and one tick more
@@ -254,7 +391,7 @@ beyond() {
 # A log whose ticks fall: the clock of a device that was set back.
 falls() { head -c 20 "$here/full.log" && head -c 10 "$here/full.log"; }
 
-for session in full hour morning beyond texts refused_1 refused_2 refused_3 refused_4 refused_4_lo refused_5 refused_6 refused_7 refused_8 refused_13; do
+for session in full hour morning beyond texts infrared refused_1 refused_2 refused_3 refused_4 refused_4_lo refused_4_im refused_5 refused_6 refused_6_im refused_7 refused_8 refused_13; do
     $session >"$session.session"
 done
 compare_model >compare.model.session

@@ -4,6 +4,7 @@
 #
 #   IN INSTANCE TYPE RESOLUTION    declares an instance: type 3, occupancy, with resolution 2; type 4, light, with 1 to 24
 #   LO INSTANCE TYPE RESOLUTION    declares a light instance built to the text of 2017: type 4, with 1 to 24
+#   IM INSTANCE TYPE RESOLUTION    declares a movement-based occupancy instance: type 3, with resolution 2
 #   SA INSTANCE STATUS VALUE       what it measures from now on: status 0 valid; 1 not ready and 2 failed, with value 0
 #   FR BYTE1 BYTE2 BYTE3           a frame, its bytes in hexadecimal, as in the standards
 #   TK TICKS                       so many ticks of 50 ms, up to 4294967295: a record for each 65535 of them, and one for the rest
@@ -38,7 +39,7 @@ record_fits() {
 
 record_bytes() { for record_byte in "$@"; do printf "\\$(printf %03o "$record_byte")"; done; }
 
-# record_declares MARK NUMBER...: IN and LO are laid out alike
+# record_declares MARK NUMBER...: IN, LO and IM are laid out alike
 record_declares() {
     record_fits "$*" $(($# - 1)) 255 "${2-}" 255 "${3-}" 255 "${4-}" || return
     printf %s "$1" && record_bytes "$2" "$3" "$4"
@@ -47,6 +48,8 @@ record_declares() {
 IN() { record_declares IN "$@"; }
 
 LO() { record_declares LO "$@"; }
+
+IM() { record_declares IM "$@"; }
 
 SA() {
     record_fits "SA $*" $# 255 "${1-}" 255 "${2-}" 16777215 "${3-}" || return

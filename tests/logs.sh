@@ -186,12 +186,17 @@ for name in full.session full.log; do
 done
 cp examples/hour.session "$room/input"
 shows 0 '167 records, 908 bytes shown'
-# the two marks that declare; and a session that begins with LO, whose fields are not judged
+# the three marks that declare; and sessions that begin with LO and with IM, whose fields are not judged
 cp examples/texts.session "$room/input"
 shows 0 '26 records, 156 bytes shown'
 grep -qx 'byte        5  tick       0   0:00:00.00  LO  instance 1  type 4  resolution 10' "$room/out" || fail "show, LO: $(head -n 2 "$room/out")"
-cp examples/refused_4_lo.session "$room/input"
-shows 0 '1 record, 5 bytes shown'
+cp examples/infrared.session "$room/input"
+shows 0 '109 records, 582 bytes shown'
+grep -qx 'byte        5  tick       0   0:00:00.00  IM  instance 1  type 3  resolution 2' "$room/out" || fail "show, IM: $(head -n 2 "$room/out")"
+for mark in lo im; do
+    cp "examples/refused_4_$mark.session" "$room/input"
+    shows 0 '1 record, 5 bytes shown'
+done
 unknown='1, mark unknown' cut='2, fewer bytes remain than the mark, or the record, needs'
 cp examples/refused_1.session "$room/input"
 shows 1 "1 record, 5 bytes shown; record refused at byte 5: $unknown"

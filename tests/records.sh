@@ -29,6 +29,7 @@ refuses() {
 writes 494e0f0418 IN 15 4 24
 writes 494effffff IN 255 0xFF 0xff
 writes 4c4f0f0418 LO 15 4 24
+writes 494d0f0302 IM 15 3 2
 writes 5341000000fffe SA 0 0 65534
 writes 53410102ffffff SA 1 2 16777215
 writes 4652010a8c FR 01 A 8c
@@ -46,6 +47,8 @@ refuses IN 0 4 256
 refuses IN 0 four 8
 refuses LO 0 4
 refuses LO 256 4 8
+refuses IM 0 3
+refuses IM 0 3 256
 refuses SA 256 0 0
 refuses SA 0 0 16777216
 refuses SA 0 0 0x1000000
@@ -60,4 +63,4 @@ refuses TK 010
 refuses TK 1.5
 refuses TK 4294967296
 refuses TK 18446744073709551617
-echo 'records by hand: 13 written, 20 refused'
+echo 'records by hand: 14 written, 22 refused'

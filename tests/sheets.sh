@@ -214,6 +214,20 @@ done >"$room/input"
 LO 15 4 1 >>"$room/input"
 session 0 '16 records, 80 bytes read; 0 ticks; 0 bytes logged' '16 sheets of 1 hour'
 printed "$room/sheets" 16 1 -v of='a session' -v reached=0 -v types="${types}light of the 2017 text, resolution 1"
+# occupancy of either make; all sixteen places by all three marks, the last by IM
+cp examples/infrared.session "$room/input"
+session 0 '109 records, 582 bytes read; 72000 ticks; 468 bytes logged' '3 sheets of 1 hour'
+printed "$room/sheets" 3 1 -v of='a session' -v reached=72000 -v types='movement-based occupancy;movement-based occupancy;occupancy'
+types=
+for i in 0 4 8 12; do
+    LO $i 4 $((i + 9))
+    IN $((i + 1)) 3 2
+    IN $((i + 2)) 4 $((i + 10))
+    IM $((i + 3)) 3 2
+    types="${types}light of the 2017 text, resolution $((i + 9));occupancy;light, resolution $((i + 10));movement-based occupancy;"
+done >"$room/input"
+session 0 '16 records, 80 bytes read; 0 ticks; 0 bytes logged' '16 sheets of 1 hour'
+printed "$room/sheets" 16 1 -v of='a session' -v reached=0 -v types="${types%;}"
 # nothing declared; no tick; the last tick of the table, and one more
 : >"$room/input"
 call --sheets "$room/sheets"
