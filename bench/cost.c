@@ -1,9 +1,12 @@
 /* One run whose cost is measured from outside.
- *   cost first|table|second INSTANCES quiet|sampled|busy TICKS
- * first is the proved library, table the same with the hour table, second the plain C implementation. All instances are light with resolution 16.
+ *   cost first|table|second INSTANCES quiet|sampled|busy|presence|movement TICKS
+ * first is the proved library, table the same with the hour table, second the plain C implementation. In the first three loads all instances are light with
+ * resolution 16.
  * quiet: one sample, and then ticks alone, at the default settings: a report every 600 ticks.
  * sampled: the same, with a new sample for each instance every 20 ticks that stays inside the band.
- * busy: dead time 0, and at every tick a new sample for each instance, which sends an event. */
+ * busy: dead time 0, and at every tick a new sample for each instance, which sends an event.
+ * presence, movement: occupancy of that make at the default settings. One instance after the other sees movement for 100 ticks, each every 28,800, and is
+ * vacant 18,000 ticks after that: by its hold where it is movement-based, else by a sample. Both send the same events at the same ticks. */
 #include "potmeander.h"
 #include "second/second.h"
 
@@ -12,6 +15,9 @@
 #include <string.h>
 
 enum { LIGHT = 4, RESOLUTION = 16, REPORT = 600, IN_SIZE = 5, FR_SIZE = 5, SA_SIZE = 7, TK_SIZE = 4, EV_SIZE = 10, TK_MOST = 65535 };
+
+/* Ticks of one instance's turn, in which it sees movement at first; the turns of a round; so many turns later its hold ends. */
+enum { OCCUPANCY = 3, TURN = 1800, SEEN = 100, ROUND = 16, HELD = 10 };
 
 /* How often there are samples (0: once), the two values' high bytes, and whether dead time is set to 0. */
 typedef struct {
@@ -66,6 +72,26 @@ static session make(unsigned instances, const load *l, unsigned long ticks)
     return s;
 }
 
+/* The turn of instance k. */
+static void put_turn(session *s, unsigned k, unsigned instances, bool movement)
+{
+    unsigned left = (k + ROUND - HELD) % ROUND;
+    if (k < instances) PUT(s, 'S', 'A', (uint8_t)k, 0, 0, 0, movement ? 1 : 3);
+    put_ticks(s, SEEN);
+    if (k < instances) PUT(s, 'S', 'A', (uint8_t)k, 0, 0, 0, movement ? 0 : 2);
+    if (left < instances && !movement) PUT(s, 'S', 'A', (uint8_t)left, 0, 0, 0, 0);
+    put_ticks(s, TURN - SEEN);
+}
+
+static session make_occupancy(unsigned instances, bool movement, unsigned long ticks)
+{
+    unsigned long turns = ticks / TURN;
+    session s = {malloc(IN_SIZE * (size_t)instances + turns * (3 * SA_SIZE + 2 * TK_SIZE)), 0};
+    for (unsigned i = 0; i < instances; i++) PUT(&s, 'I', movement ? 'M' : 'N', (uint8_t)i, OCCUPANCY, 2);
+    for (unsigned long turn = 0; turn < turns; turn++) put_turn(&s, (unsigned)(turn % ROUND), instances, movement);
+    return s;
+}
+
 static const load *named(const char *name)
 {
     for (size_t i = 0; i < sizeof loads / sizeof *loads; i++)
@@ -76,15 +102,17 @@ static const load *named(const char *name)
 int main(int argc, char **argv)
 {
     const load *l = argc == 5 ? named(argv[3]) : NULL;
+    bool movement = argc == 5 && strcmp(argv[3], "movement") == 0, presence = argc == 5 && strcmp(argv[3], "presence") == 0;
     unsigned long ticks = argc == 5 ? (unsigned long)strtoull(argv[4], NULL, 10) : 0;
-    if (l == NULL || ticks == 0) {
-        printf("usage: cost first|table|second INSTANCES quiet|sampled|busy TICKS\n");
+    if ((l == NULL && !movement && !presence) || ticks == 0) {
+        printf("usage: cost first|table|second INSTANCES quiet|sampled|busy|presence|movement TICKS\n");
         return 2;
     }
     bool first = strcmp(argv[1], "first") == 0, table = strcmp(argv[1], "table") == 0;
     unsigned instances = (unsigned)strtoull(argv[2], NULL, 10);
-    session s = make(instances, l, ticks);
-    size_t log_len = (size_t)EV_SIZE * instances * (l->at_once ? ticks + 2 : ticks / REPORT + 2); /* never short of room for a tick */
+    session s = l != NULL ? make(instances, l, ticks) : make_occupancy(instances, movement, ticks);
+    bool busy = l != NULL && l->at_once;
+    size_t log_len = (size_t)EV_SIZE * instances * (busy ? ticks + 2 : ticks / REPORT + 2); /* never short of room for a tick */
     uint8_t *log = malloc(log_len);
     uint64_t number, written;
     if (first || table) {

@@ -89,14 +89,14 @@ per_tick() {
     esac
 }
 
-# row NAME FIRST SECOND; and of a long run: long NAME MEASURE UNIT HOURS
+# row NAME FIRST SECOND; and of a long run: long NAME MEASURE UNIT HOURS LOAD
 row() {
     printf '%-48s %12s %12s %7s\n' "$1" "$2" "$3" "$(awk "BEGIN { printf \"%.2f\", $2 / $3 }")"
 }
 long() {
-    first=$($2 "$built/cost" first 16 quiet $(($4 * 72000)))
-    second=$($2 "$built/cost" second 16 quiet $(($4 * 72000)))
-    row "$4 hours of 16, quiet: $1 in all" $((first / $3)) $((second / $3))
+    first=$($2 "$built/cost" first 16 "$5" $(($4 * 72000)))
+    second=$($2 "$built/cost" second 16 "$5" $(($4 * 72000)))
+    row "$4 hours of 16, $5: $1 in all" $((first / $3)) $((second / $3))
 }
 
 printf '%-48s %12s %12s %7s\n' "$unit" library 'plain C' ratio
@@ -107,8 +107,13 @@ for load in quiet sampled busy; do
 done
 row 'one widening, 9 bits to 16' "$(each 5000 "$built/widening" first)" "$(each 5000 "$built/widening" second)"
 for hours in 8 48; do
-    long ms timed 1000000 "$hours"
-    [ -z "$whole" ] || long 'thousand instructions' counted 1000 "$hours"
+    long ms timed 1000000 "$hours" quiet
+    [ -z "$whole" ] || long 'thousand instructions' counted 1000 "$hours" quiet
+done
+# Occupancy of either make (M-100): the same events at the same ticks, by a hold timer and by samples.
+for load in presence movement; do
+    long us timed 1000 48 "$load"
+    [ -z "$whole" ] || long 'thousand instructions' counted 1000 48 "$load"
 done
 
 # The hour table: a long run with it, and the same without.
