@@ -213,8 +213,9 @@ texts() {
 # ---- an hour under infrared, 72,000 ticks: instances 0 and 1 movement-based, 0 as declared, 1 with hold 1 and all triggers; instance 2 presence-based, in the same
 # room. Hold: 90 x 200 ticks, and 200 ticks
 up_to() { TK $(($1 - reached)) && reached=$1; }  # ticks, to tick $1
+seen() { SA 0 $valid "$1" && SA 1 $valid "$1" && SA 2 $valid "$2"; }  # by the movement-based ones, and by the third
 
-infrared() {
+infrared_begins() {
     reached=0
     IM 0 $occupancy 2
     IM 1 $occupancy 2
@@ -229,17 +230,15 @@ infrared() {
     FR 01 01 90
     up_to 1200
     FR 01 00 8C  # vacant: 00
+}
 
+infrared_holds() {
     # somebody comes: at tick 1201 all three are occupied. Instance 1 has two triggers, and one event of them
-    SA 0 $valid $movement
-    SA 1 $valid $movement
-    SA 2 $valid $moving
+    seen $movement $moving
     up_to 1300
 
     # and sits down: at 1301 the holds start, to 19301 and to 1501
-    SA 0 $valid $nothing
-    SA 1 $valid $nothing
-    SA 2 $valid $still
+    seen $nothing $still
     up_to 1500
     FR 01 00 8C  # occupied without movement: AA,
     FR 01 01 8C  # both
@@ -248,32 +247,26 @@ infrared() {
 
     # gets up: at 6001 instance 0 is occupied with movement again, and was not vacant between: Movement alone, which its filter holds back
     up_to 6000
-    SA 0 $valid $movement
-    SA 1 $valid $movement
-    SA 2 $valid $moving
+    seen $movement $moving
     up_to 6020
     FR 01 00 8C  # FF
 
     # and leaves: presence is vacant at 6021. The holds start anew, to 24021 and to 6221
-    SA 0 $valid $nothing
-    SA 1 $valid $nothing
-    SA 2 $valid $vacant
+    seen $nothing $vacant
     up_to 19301  # where the first hold of instance 0 would have ended
     FR 01 00 8C
     up_to 24020
     FR 01 00 8C  # still AA,
     up_to 24021
     FR 01 00 8C  # and vacant
+}
 
+infrared_fails() {
     # somebody looks in: holds from 26441 on, to 44441 and to 26641
     up_to 26400
-    SA 0 $valid $movement
-    SA 1 $valid $movement
-    SA 2 $valid $moving
+    seen $movement $moving
     up_to 26440
-    SA 0 $valid $nothing
-    SA 1 $valid $nothing
-    SA 2 $valid $vacant
+    seen $nothing $vacant
 
     # instance 0 fails before its hold ends, and is back after that: vacant at the first valid tick
     up_to 40000
@@ -285,7 +278,9 @@ infrared() {
     SA 0 $valid $nothing
     up_to 44501
     FR 01 00 8C
+}
 
+infrared_cancelled() {
     # a hold that is cancelled: from 48021 on, and it ends at 48121 and not at 66021
     up_to 48000
     SA 0 $valid $movement
@@ -297,7 +292,9 @@ infrared() {
     up_to 48121
     FR 01 00 8C
     FR 01 00 24  # none runs: nothing
+}
 
+infrared_catches() {
     # movement caught: of four times that there is some, instance 0 sends the first, Occupied, and the third, Movement, which was asked for
     up_to 50400
     SA 0 $valid $movement
@@ -320,7 +317,9 @@ infrared() {
     SA 0 $valid $movement
     up_to 50560
     SA 0 $valid $nothing  # the hold of 50561 ends at 68561
+}
 
+infrared_ends() {
     # instance 1, hold from 52821 on: movement at 53021, the tick where it would end, and for that tick alone. The hold starts anew at 53022 and ends at 53222; the
     # event of No movement waits for the end of dead time, 53023
     up_to 52800
@@ -342,6 +341,15 @@ infrared() {
     SA 1 $valid $nothing
     up_to 72000
     FR 01 00 8C
+}
+
+infrared() {
+    infrared_begins
+    infrared_holds
+    infrared_fails
+    infrared_cancelled
+    infrared_catches
+    infrared_ends
 }
 
 # ---- one session for each refusal
