@@ -19,7 +19,7 @@
  * potmeander_hours and potmeander_hour, and `rt staticlib tabled` libtabled.a with potmeander_session_hours; each serves without the others, and all
  * together. Of a C library the first needs memcpy, the second nothing, the third memset, the fourth both. They have no variables: nothing is kept from
  * one call to the next, and calls in several threads do not know of each other, as long as they share nothing that is written. They allocate nothing. A
- * call uses less than 8 KiB of stack (7,814 bytes were measured), beside what a memcpy that is bound at its first call takes there. A tick takes about a
+ * call uses less than 8 KiB of stack (7,592 bytes were measured), beside what a memcpy that is bound at its first call takes there. A tick takes about a
  * microsecond where 16 instances send, and in a long TK about a thousandth of that where none does (docs/COST.md). The header serves C99 and
  * later, and C++.
  *
@@ -63,7 +63,7 @@
  *
  *   C1 30 d          loads d into DTR0, which all instances share; it is 0 at the start
  *   01 i opcode      for instance i; FF in place of 01 does the same
- * Any other frame, one for an instance that is not declared, and an opcode that the type does not have, is taken and does nothing.
+ * Any other frame, one for an instance that is not declared, and an opcode that the instance does not have, is taken and does nothing.
  *
  *   set from DTR0    light   occupancy   unit, or what is taken               at the start: light   occupancy
  *   report             30       22       20 ticks (1 s); 0: no reports                         30         20
@@ -122,7 +122,7 @@
  * wait, opposite ones too; so do disabling and a failure, and a new filter drops those it does not allow. An event goes out where one waits, or
  * where a report is due and filter bit 2 is set.
  *   Movement-based occupancy makes its value at each valid tick, and all else is as for presence. With movement it is occupied with movement. At the first
- * tick without, it is occupied without, and the hold timer starts; hold ticks later, if every valid tick up to there, that one too, is without movement,
+ * valid tick without, it is occupied without, and the hold timer starts; hold ticks later, if every valid tick up to there, that one too, is without movement,
  * it is vacant. The hold timer falls in a failure too; where it has run out there, the instance is vacant at the first valid tick behind the failure,
  * unless that has movement. Disabled or not, value and hold timer go on. Cancel hold lets a running hold timer run out at the next tick, and does nothing
  * where none runs. Catch movement is for a filter without bit 3, Movement: from then on the next Movement waits and is sent as if the bit were set.

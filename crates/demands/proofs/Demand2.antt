@@ -74,7 +74,7 @@ module _ (m : Model) (ys zs : List ℕ) (room : ℕ) where
 
 module _ (m : Model) where
   -- "A command numbered to one instance changes no variable or timer of another": whatever the frame, every instance but the one that its
-  -- byte 2 numbers is as it was
+  -- byte 2 numbers is as it was, its latch too and, of a movement sensor, its hold timer and catching (M-100)
   pub frame-keeps-others : (first second third j : ℕ) → j ≢ second → instanceAt (frameModel m first second third) j ≡ instanceAt m j
   frame-keeps-others = frame-other m
 

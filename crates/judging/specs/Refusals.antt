@@ -10,9 +10,9 @@ unfoldable pub numberOf : Refusal → ℕ
 numberOf UnknownMark = 1
 -- fewer bytes remain than the mark, or the record, needs
 numberOf Cut = 2
--- IN or LO after a record of another kind, or its number isn't the next, from 0
+-- IN, LO or IM after a record of another kind, or its number isn't the next, from 0
 numberOf LateOrSkipped = 3
--- IN or LO number 16 or above; a type and resolution that it does not declare
+-- IN, LO or IM number 16 or above; a type and resolution that it does not declare
 numberOf NoSuchSensor = 4
 -- SA for an undeclared instance
 numberOf Undeclared = 5

@@ -1,4 +1,4 @@
--- Worked examples by computation: IEC 62386-303, Table 11 and, of the movement-based sensor, Figure 2.
+-- Worked examples by computation: IEC 62386-303, Table 11; and M-100, of the movement-based sensor.
 -- Assumes nothing.
 use Prim.Native.Nat.{ℕ, _+_}
 use Rattle.sensor.proofs.Table.{each}
@@ -56,7 +56,7 @@ states : map (λ (v : ℕ). occupancyInput (record { value = v; waiting = 0 })) 
 unfolding occupancyInput widened
 states = refl
 
--- ---- Figure 2: from a state, with movement or without, the hold time over or not, to a state, with the triggers of Table 11
+-- ---- M-100: from a state, with movement or without, the hold time over or not, to a state, with the triggers of Table 11
 record Moved : Type 0 where
   from : ℕ
   moves : Bool
@@ -67,8 +67,8 @@ record Moved : Type 0 where
 abbrev moved : (from : ℕ) → (moves over : Bool) → (to fires : ℕ) → Moved
 moved from moves over to fires = record { from = from; moves = moves; over = over; to = to; fires = fires }
 
-unfoldable figure2 : List Moved
-figure2 =
+unfoldable m100 : List Moved
+m100 =
     moved 0 true true 3 (occupied + movement)
     ∷ moved 0 false true 0 0
     ∷ moved 3 true true 3 0
@@ -82,6 +82,6 @@ figure2 =
 goes : Moved → Bool
 goes t = eqb (area (t .from) (t .moves) (t .over)) (t .to) && eqb (triggers (t .from) (t .to)) (t .fires)
 
-figure-2 : (t : Moved) → List·Memᴰ t figure2 → T (goes t)
-unfolding figure2 goes area stilled triggers change
-figure-2 = each goes figure2 tt
+m-100 : (t : Moved) → List·Memᴰ t m100 → T (goes t)
+unfolding m100 goes area stilled triggers change
+m-100 = each goes m100 tt

@@ -110,6 +110,8 @@ use Rattle.sensor.proofs.occupancy.Occupancy.allows.Kinds as Occupancy-
 use Rattle.sensor.proofs.occupancy.Occupancy.allows.Reads as Occupancy-allows
 use Rattle.sensor.proofs.occupancy.Occupancy.cause.Kinds as Occupancy-cause-kinds
 use Rattle.sensor.proofs.occupancy.Occupancy.cause.Reads as Occupancy-cause
+use Rattle.sensor.proofs.occupancy.Occupancy.defaults.Kinds as Occupancy-defaults-kinds
+use Rattle.sensor.proofs.occupancy.Occupancy.defaults.Reads as Occupancy-defaults
 use Rattle.sensor.proofs.occupancy.Occupancy.fresh.Kinds as Occupancy-fresh-kinds
 use Rattle.sensor.proofs.occupancy.Occupancy.fresh.Reads as Occupancy-fresh
 use Rattle.sensor.proofs.occupancy.Occupancy.information.Kinds as Occupancy-information-kinds
@@ -239,6 +241,9 @@ Band-outside-unique κs a x y s t p q = p ∙ sym q
 
 pub Band-moved-unique : Unique 0 Band-moved-kinds.ps Band-moved-kinds.r Band-moved.Post
 Band-moved-unique κs a x y s t p q = p ∙ sym q
+
+pub Occupancy-defaults-unique : Unique 0 Occupancy-defaults-kinds.ps Occupancy-defaults-kinds.r Occupancy-defaults.Post
+Occupancy-defaults-unique κs a x y s t p q = p ∙ sym q
 
 pub Occupancy-fresh-unique : Unique 0 Occupancy-fresh-kinds.ps Occupancy-fresh-kinds.r Occupancy-fresh.Post
 Occupancy-fresh-unique κs a x y s t p q = p ∙ sym q

@@ -23,14 +23,15 @@ pub struct Latch {
     pub bytes: u32,
 }
 
-// held: the latest sample. measured: a valid sample was taken for it (M-110). failed: status 2 at the last tick.
+// measured: a valid sample was taken for it (M-110). failed: status 2 at the last tick. held: the latest sample. In this order it has 80 bytes: the
+// two flags fill what the timers leave of eight.
 pub struct Instance {
     pub kind: Kind,
     pub settings: Settings,
     pub timers: Timers,
-    pub held: Sample,
     pub measured: bool,
     pub failed: bool,
+    pub held: Sample,
     pub latch: Latch,
 }
 

@@ -44,11 +44,14 @@ impl Movement {
     pub fn fresh() -> Instance
         ensures { λ r. ⌜ r ≡ movementFresh ⌝ }
     {
-        let presence = Occupancy::fresh();
-        let defaults = presence.settings;
+        let defaults = Occupancy::defaults();
         let settings = Settings {
             hold: Movement::HOLD,
             ..defaults
+        };
+        let still = Sample {
+            status: 0,
+            value: 0,
         };
         let seen = Occupancy {
             value: 0,
@@ -59,7 +62,7 @@ impl Movement {
             hold: 0,
             catching: false,
         };
-        Instance::fresh(Kind::Movement(movement), settings, presence.held)
+        Instance::fresh(Kind::Movement(movement), settings, still)
     }
 
     // Which samples it takes: bit 0, movement, alone.

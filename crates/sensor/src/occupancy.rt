@@ -5,7 +5,7 @@ use crate::settings::Sample;
 use crate::settings::Settings;
 use timers::Units;
 ghost use Rattle.sensor.specs.Fresh.{occupancyFresh};
-ghost use Rattle.sensor.specs.Occupancy.{change, occupancyAllowing, occupancyAllows, occupancyCause, occupancyInformation, occupancyInput, occupancyRepeat, occupancySent, occupancyTaken, triggers, waits};
+ghost use Rattle.sensor.specs.Occupancy.{change, occupancyAllowing, occupancyAllows, occupancyCause, occupancyInformation, occupancyInput, occupancyRepeat, occupancySent, occupancySettings, occupancyTaken, triggers, waits};
 ghost use Rattle.sensor.specs.Quiet.{occupancySettled};
 ghost use mathlib.Core.Path.{_≡_};
 
@@ -45,18 +45,25 @@ impl Occupancy {
 
     pub const QUERY_REPORT: u8 = 0x2E;
 
-    pub fn fresh() -> Instance
-        ensures { λ r. ⌜ r ≡ occupancyFresh ⌝ }
+    // The settings of either occupancy sensor at the start, but for hold.
+    pub fn defaults() -> Settings
+        ensures { λ r. ⌜ r ≡ occupancySettings ⌝ }
     {
         let none = Settings::NONE;
-        let settings = Settings {
+        Settings {
             report: Occupancy::REPORT,
             deadtime: Occupancy::DEADTIME,
             filter: Occupancy::FILTER,
             priority: Occupancy::PRIORITY,
             enabled: true,
             ..none
-        };
+        }
+    }
+
+    pub fn fresh() -> Instance
+        ensures { λ r. ⌜ r ≡ occupancyFresh ⌝ }
+    {
+        let settings = Occupancy::defaults();
         let still = Sample {
             status: 0,
             value: 0,

@@ -2,18 +2,18 @@
 -- Assumes nothing.
 use Rattle.sensor.proofs.movement.Movement.fresh.Statement.{statement}
 use Rattle.sensor.proofs.movement.Movement.fresh.Tie as tie
-use Rattle.sensor.specs.Fresh.{fresh, movementFresh, occupancyFresh}
+use Rattle.sensor.specs.Fresh.{movementFresh}
 use borrow.Author.Needs.{needs}
+
+defaults-requires : tie.Need-defaults-requires
+defaults-requires c κs = search needs
 
 fresh-requires : tie.Need-fresh-requires
 fresh-requires c κs = search needs
 
-fresh-requires-2 : tie.Need-fresh-requires-2
-fresh-requires-2 c κs = search needs
-
 returns : tie.Need-returns
-unfolding fresh movementFresh occupancyFresh
-returns c = rw (c .fresh2 .ensures, c .before .before .fresh .ensures)
+unfolding movementFresh
+returns c = rw (c .fresh .ensures, c .before .defaults .ensures)
 
 pub fresh-spec : {M : Type 1} → statement M
-fresh-spec = tie.close (tie.spec fresh-requires fresh-requires-2 returns)
+fresh-spec = tie.close (tie.spec defaults-requires fresh-requires returns)
