@@ -1,5 +1,5 @@
-/* Potmeander: a model of a DALI-2 input device with up to 16 sensor instances (IEC 62386-303, occupancy, and -304, light), for a bench
- * controller.
+/* Potmeander: a model of a DALI-2 input device with up to 16 sensor instances (IEC 62386-303, occupancy, -304, light, and -305,
+ * colour), for a bench controller.
  *
  * The library has five calls. potmeander_session reads a whole session, what the device is given, from a fresh model, and writes the log, what
  * the device must send and answer. potmeander_compare lays the device's log beside the model's and names the first difference. potmeander_hours
@@ -9,7 +9,7 @@
  *
  * This page is the manual: 1 the archives, 2 a session, 3 frames, 4 when an event goes out, 5 a log, 6 an example, 7 the numbers, 8 the call
  * for a session, 9 the call for two logs, 10 the hour table. It says in short what is proved; the definitions decide (docs/TRUST.md, 1), and above them
- * document 01 with M-100, M-102, M-103, M-106, M-107 and M-110.
+ * document 01 with M-100, M-102, M-103, M-104, M-106, M-107 and M-110.
  *
  *
  * 1. THE ARCHIVES
@@ -41,17 +41,18 @@
  *     three declares them; there are 16 at most, or none.
  *       type 3, occupancy: resolution 2; presence-based by IN, movement-based by IM
  *       type 4, light: resolution 1 to 24, the bits of a measured value; by IN or LO
+ *       type 5, colour (M-104): resolution 24; by IN
  *     What LO declares is light in all that follows, and differs in one thing: the number that its band is taken on (part 4). What IM declares is
  *     occupancy in all that follows but where it says movement-based: it is told of movement alone, and makes its value of that and of a hold timer.
  *
  * SA  replaces the sample that the instance holds, and does no more: it shows from the next tick on, and until then queries answer as before.
- *       status              value, light               value, occupancy
- *       0  valid            0 to 2^resolution - 2      0 to 3: bit 0 movement, bit 1 occupied;
- *                                                      movement-based 0 or 1: bit 0 alone
- *       1  not ready        0; only before the         not allowed
- *                           first SA with status 0
- *       2  failure          0                          0
- *     Before its first sample light counts as not ready, and occupancy as valid with value 0.
+ *       status              value, light               value, colour              value, occupancy
+ *       0  valid            0 to 2^resolution - 2      blue, green and red,       0 to 3: bit 0 movement, bit 1 occupied;
+ *                                                      a byte each: 0 to 254      movement-based 0 or 1: bit 0 alone
+ *       1  not ready        0; only before the         0; only before the         not allowed
+ *                           first SA with status 0     first SA with status 0
+ *       2  failure          0                          0                          0
+ *     Before its first sample light and colour count as not ready, and occupancy as valid with value 0.
  *
  * FR  acts at once, on what the last tick left (part 3).
  *
@@ -61,48 +62,55 @@
  *
  * 3. FRAMES. Frame bytes, opcodes and answers are in hexadecimal, all other numbers in decimal.
  *
- *   C1 30 d          loads d into DTR0, which all instances share; it is 0 at the start
+ *   C1 30 d          loads d into DTR0, which all instances share; it is 0 at the start, and but for this only the colour query changes it
  *   01 i opcode      for instance i; FF in place of 01 does the same
  * Any other frame, one for an instance that is not declared, and an opcode that the instance does not have, is taken and does nothing.
  *
- *   set from DTR0    light   occupancy   unit, or what is taken               at the start: light   occupancy
- *   report             30       22       20 ticks (1 s); 0: no reports                         30         20
- *   deadtime           32       23       1 tick; 0: none                                       30          2
- *   hold                -       21       200 ticks (10 s); 0: 20 ticks; 255: no change          -         90; movement-based alone
- *   hysteresis         31        -       percent; above 25: no change                           5          -
- *   hysteresisMin      33        -       steps of v (part 4)                           see below          -
- *   filter             68       68       the bits that the type has; others are dropped         1          3
- *   priority           61       61       2 to 5, else no change                                 4          4
- *   enable             62       62       DTR0 does not matter                             enabled    enabled
- *   disable            63       63       DTR0 does not matter
- *   catch movement      -       20       no setting (part 4); movement-based alone
- *   cancel hold         -       24       no setting (part 4); movement-based alone
- * hysteresisMin starts as 2^resolution / 100, rounded down, and 255 at most. Filter bits of light: bit 0, its events. Of occupancy: bit 0
- * Occupied, 1 Vacant, 2 Repeat (its reports: off at the start), 3 Movement, 4 No movement.
+ *   set from DTR0    light   colour   occupancy   unit, or what is taken                  at the start: light   colour   occupancy
+ *   report             30       40       22       20 ticks (1 s), of colour 100; 0: no reports             30       30         20
+ *   deadtime           32       42       23       1 tick; 0: none                                          30       30          2
+ *   hold                -        -       21       200 ticks (10 s); 0: 20 ticks; 255: no change             -        -         90; movement-based alone
+ *   hysteresis         31       41        -       percent; above 25: no change                              5       10          -
+ *   hysteresisMin      33       43        -       steps of v, of colour of the change (part 4)      see below       12          -
+ *   filter             68       68       68       the bits that the type has; others are dropped,           1        1          3
+ *                                                 of colour 0 or 1, else no change
+ *   priority           61       61       61       2 to 5, else no change                                    4        4          4
+ *   enable             62       62       62       DTR0 does not matter                                enabled  enabled    enabled
+ *   disable            63       63       63       DTR0 does not matter
+ *   catch movement      -        -       20       no setting (part 4); movement-based alone
+ *   cancel hold         -        -       24       no setting (part 4); movement-based alone
+ * hysteresisMin of light starts as 2^resolution / 100, rounded down, and 255 at most. Filter bits of light and of colour: bit 0, its events, the
+ * reports too. Of occupancy: bit 0 Occupied, 1 Vacant, 2 Repeat (its reports: off at the start), 3 Movement, 4 No movement.
  *   A new report or deadtime serves from the next start of its timer, but for these: report 0 stops the report timer at once, and a report
  * that was due no longer is; a report above 0 starts it at once where it was stopped; deadtime 0 ends a running dead time at once. A new hold serves
  * from the next start of the hold timer.
  *
- *   query            light   occupancy   answer, one byte; where there is none nothing is logged
- *   type               80       80       04, or 03
- *   resolution         81       81
- *   error              82       82       01 in a failure, else none
- *   status             83       83       bit 0 failure, bit 1 enabled
- *   priority           84       84       this and the next six: as they were set, or at the start
- *   filter             90       90
- *   deadtime           3D       2C
- *   report             3E       2E
- *   hold                -       2D       movement-based alone
- *   hysteresis         3F        -
- *   hysteresisMin      3C        -
- *   enabled            86       86       FF, or none
- *   catching            -       2F       FF, or none; movement-based alone
- *   input value        8C       8C       its first byte; the rest is kept for 8D of that instance, up to its next 8C
- *   its next byte      8D       8D       none where nothing is left
+ *   query            light   colour   occupancy   answer, one byte; where there is none nothing is logged
+ *   type               80       80       80       04, 05 or 03
+ *   resolution         81       81       81
+ *   error              82       82       82       01 in a failure, else none
+ *   status             83       83       83       bit 0 failure, bit 1 enabled
+ *   priority           84       84       84       this and the next six: as they were set, or at the start
+ *   filter             90       90       90
+ *   deadtime           3D       4D       2C
+ *   report             3E       4E       2E
+ *   hold                -        -       2D       movement-based alone
+ *   hysteresis         3F       4F        -
+ *   hysteresisMin      3C       4C        -
+ *   colour sensor       -       4B        -       by DTR0, which then counts up: see below
+ *   enabled            86       86       86       FF, or none
+ *   catching            -        -       2F       FF, or none; movement-based alone
+ *   input value        8C       8C       8C       its first byte; the rest is kept for 8D of that instance, up to its next 8C
+ *   its next byte      8D       8D       8D       none where nothing is left
  * The input value has the least bytes that hold the resolution. Its bits, from the top, are those of the measured value from the top, again and
- * again: bit j from the top is bit (j mod resolution) from the top, j from 0. Light that is not ready or failed has all bits 1. Occupancy has
- * 00, 55, AA, FF for 0 to 3, and in a failure the value of the last tick that was valid. Movement-based it has 00 vacant, FF occupied with movement, AA
- * occupied without.
+ * again: bit j from the top is bit (j mod resolution) from the top, j from 0. Of colour these are blue, green and red, a byte each. Light and
+ * colour that is not ready or failed has all bits 1. Occupancy has 00, 55, AA, FF for 0 to 3, and in a failure the value of the last tick that was
+ * valid. Movement-based it has 00 vacant, FF occupied with movement, AA occupied without.
+ *   The colour query answers, in this order for DTR0 0 to 8, the wavelengths of red, green and blue, of each the upper, the peak and the lower, as
+ * (nm - 300) / 2, rounded down, 0 at 300 nm or less and 255 at 810 nm or more; for 9 to 14 the irradiance at full scale of red, green and blue in
+ * uW/cm2, of each the high byte and the low one; above 14 there is no answer. The sensor is that of the example in the standard's annex: red 675, 650,
+ * 625 nm, 340; green 575, 550, 500 nm, 360; blue 525, 475, 450 nm, 200. Behind it DTR0 is one more, 0 after 255, with an answer or without; where the
+ * answer found no room (9) it is as before.
  *
  *
  * 4. WHEN AN EVENT GOES OUT
@@ -117,6 +125,10 @@
  * v + width; else it stays. Both ends belong to the band. The width is v x hysteresis / 100, rounded down, or hysteresisMin if that is more.
  * Not ready and failure discard the band. For light declared by IN v is the measured value; for light declared by LO it is the input value, the
  * measured one filled out to whole bytes (part 3). At resolution 8, 16 and 24 the two are the same number.
+ *   Colour, if its filter bit is set, sends where a report is due; and, with hysteresis above 0, where its change is above its band. The change is what
+ * red, green and blue differ from the last ones, all three added up. Last ones and band are 0 at the start, and become new at an event that the change
+ * is a cause of, and at no other: the last ones those of that tick, the band the sum of the three x hysteresis / 100, rounded down, or hysteresisMin if
+ * that is more. Not ready and failure leave them.
  *   Occupancy compares each valid value with the valid one before it, at first with 0: Occupied and Vacant where bit 1 rose or fell, Movement and
  * No movement where bit 0 did. Such a trigger waits, if its filter bit is set and the instance enabled when it comes. One event clears all that
  * wait, opposite ones too; so do disabling and a failure, and a new filter drops those it does not allow. An event goes out where one waits, or
@@ -141,8 +153,8 @@
  * `tick` is the tick number: of an event the tick that sent it, of an answer the last one before its frame, 0 before the first.
  * `priority` is 5 where a due report is all that asked for the event, and else the instance's.
  * `information` is of the value at that tick. Of light it is ten bits by the rule of the input value: at resolution 10 and above the top ten
- * bits, below that the bits again and again. Of occupancy: bit 0 movement, bit 1 occupied, bit 2 set where a due report is all that asked, bit 3 set
- * where it is movement-based.
+ * bits, below that the bits again and again. Of colour: bits 0 to 2 the top three bits of red, 3 to 5 of green, 6 to 8 of blue. Of occupancy: bit 0
+ * movement, bit 1 occupied, bit 2 set where a due report is all that asked, bit 3 set where it is movement-based.
  *
  *
  * 6. AN EXAMPLE (tests/controller.c runs it)
