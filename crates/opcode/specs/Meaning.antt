@@ -1,7 +1,7 @@
 -- Document 01, "Frames", with M-100 and M-104: the opcodes of each type, and the command or query that each means. Any other byte is ignored.
 -- Assumes nothing.
 use Prim.Native.Nat.{ℕ}
-use Rattle.opcode.specs.declared.Command.the-variants.{Disable, Enable, SetDeadtime, SetFilter, SetHold, SetHysteresis, SetHysteresisMin, SetPriority, SetReport}
+use Rattle.opcode.specs.declared.Command.the-variants.{Disable, Enable, SetDeadtime, SetFilter, SetHold, SetHysteresis, SetHysteresisMin, SetPriority, SetReport, SetValidFilter}
 use Rattle.opcode.specs.declared.Command.{Command}
 use Rattle.opcode.specs.declared.Control.the-variants.{CancelHold, CatchMovement}
 use Rattle.opcode.specs.declared.Control.{Control}
@@ -31,13 +31,13 @@ abbrev pub acts : (opcode : ℕ) → Control → Case
 acts n control = record { opcode = n; means = Act control }
 
 -- ---- the tables
--- both types, and so movement, which is of type 3, and colour
-abbrev pub bothCases : List Case
-bothCases =
+-- both types, and so movement, which is of type 3, and colour; with the command that 68 means to the type
+abbrev pub bothCases : (filter : Command) → List Case
+bothCases filter =
     sets 0x61 SetPriority
     ∷ sets 0x62 Enable
     ∷ sets 0x63 Disable
-    ∷ sets 0x68 SetFilter
+    ∷ sets 0x68 filter
     ∷ asks 0x80 (QueryVariable SensorType)
     ∷ asks 0x81 (QueryVariable Resolution)
     ∷ asks 0x82 (QueryVariable Error)
@@ -60,7 +60,7 @@ lightCases =
     ∷ asks 0x3D (QueryVariable Deadtime)
     ∷ asks 0x3E (QueryVariable Report)
     ∷ asks 0x3F (QueryVariable Hysteresis)
-    ∷ bothCases
+    ∷ bothCases SetFilter
 
 -- occupancy
 abbrev pub occupancyCases : List Case
@@ -69,7 +69,7 @@ occupancyCases =
     ∷ sets 0x23 SetDeadtime
     ∷ asks 0x2C (QueryVariable Deadtime)
     ∷ asks 0x2E (QueryVariable Report)
-    ∷ bothCases
+    ∷ bothCases SetFilter
 
 -- movement (M-100; IEC 62386-303, Table 10)
 abbrev pub movementCases : List Case
@@ -83,9 +83,9 @@ movementCases =
     ∷ asks 0x2D (QueryVariable Hold)
     ∷ asks 0x2E (QueryVariable Report)
     ∷ asks 0x2F (QueryVariable Catching)
-    ∷ bothCases
+    ∷ bothCases SetFilter
 
--- colour (M-104; IEC 62386-305, Table 11)
+-- colour (M-104; IEC 62386-305, Table 11; 11.8.2 has set filter anew)
 abbrev pub colourCases : List Case
 colourCases =
     sets 0x40 SetReport
@@ -97,7 +97,7 @@ colourCases =
     ∷ asks 0x4D (QueryVariable Deadtime)
     ∷ asks 0x4E (QueryVariable Report)
     ∷ asks 0x4F (QueryVariable Hysteresis)
-    ∷ bothCases
+    ∷ bothCases SetValidFilter
 
 -- ---- what byte 3 means
 -- the row of a table whose opcode is n: the first; where there is none it is ignored

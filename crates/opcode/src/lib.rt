@@ -19,6 +19,8 @@ pub enum Command {
     SetHysteresis,
     SetHysteresisMin,
     SetHold,
+    // Colour's set filter (M-104): what is out of range is no change.
+    SetValidFilter,
 }
 
 // The instance control instructions: they act, and set nothing (M-100).
@@ -181,7 +183,7 @@ pub fn colour_meaning(opcode: u8) -> Meaning
         Kind::SET_PRIORITY => Meaning::Set(Command::SetPriority),
         Kind::ENABLE => Meaning::Set(Command::Enable),
         Kind::DISABLE => Meaning::Set(Command::Disable),
-        Kind::SET_FILTER => Meaning::Set(Command::SetFilter),
+        Kind::SET_FILTER => Meaning::Set(Command::SetValidFilter),
         Kind::QUERY_TYPE => Meaning::Ask(Query::QueryVariable(Variable::SensorType)),
         Kind::QUERY_RESOLUTION => Meaning::Ask(Query::QueryVariable(Variable::Resolution)),
         Kind::QUERY_ERROR => Meaning::Ask(Query::QueryVariable(Variable::Error)),

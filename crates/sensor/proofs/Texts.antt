@@ -5,7 +5,7 @@ use Prim.Native.Nat.{ℕ, _*_, _-_, _<_, _^_}
 use Rattle.sensor.proofs.Laws.{both}
 use Rattle.sensor.specs.Fresh.{colourFresh, declared, fresh, lightFresh, movementFresh, occupancyFresh}
 use Rattle.sensor.specs.Instance.{withKind}
-use Rattle.sensor.specs.Kind.{allowing, allows, cancelled, catching, caught, cause, information, input, nextFilter, repeat, resolution, rules, sensorType, sent, taken, units}
+use Rattle.sensor.specs.Kind.{allowing, allows, cancelled, catching, caught, cause, information, input, kept, repeat, resolution, rules, sensorType, sent, taken, units}
 use Rattle.sensor.specs.Light.{compared, comparedBy, lightAllows, lightCause, lightInformation, lightInput, lightRepeat, lightSent, lightTaken, moved, outside, width, withBand}
 use Rattle.sensor.specs.Text.{InRange, Shows, Takes, asIN, kindAsIN, lightAsIN, wholeBytes}
 use Rattle.sensor.specs.Tick.{closed, decisionAt, holding, kindAfter, sentAfter, takenKind, ticked}
@@ -147,12 +147,12 @@ resolution-as (kinds.Occupancy o) = refl
 resolution-as (kinds.Movement m) = refl
 resolution-as (kinds.Colour c) = refl
 
-pub next-filter-as : (k : Kind) (filter d : ℕ) → nextFilter (kindAsIN k) filter d ≡ nextFilter k filter d
-unfolding nextFilter
-next-filter-as (kinds.Light l) filter d = refl
-next-filter-as (kinds.Occupancy o) filter d = refl
-next-filter-as (kinds.Movement m) filter d = refl
-next-filter-as (kinds.Colour c) filter d = refl
+pub kept-as : (k : Kind) → kept (kindAsIN k) ≡ kept k
+unfolding kept
+kept-as (kinds.Light l) = refl
+kept-as (kinds.Occupancy o) = refl
+kept-as (kinds.Movement m) = refl
+kept-as (kinds.Colour c) = refl
 
 pub input-as : (k : Kind) → input (kindAsIN k) ≡ input k
 unfolding input lightInput

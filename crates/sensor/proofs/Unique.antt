@@ -12,8 +12,6 @@ use Rattle.sensor.proofs.colour.Colour.information.Kinds as Colour-info
 use Rattle.sensor.proofs.colour.Colour.information.Reads as Colour-information
 use Rattle.sensor.proofs.colour.Colour.input.Kinds as Colour-input-kinds
 use Rattle.sensor.proofs.colour.Colour.input.Reads as Colour-input
-use Rattle.sensor.proofs.colour.Colour.next_filter.Kinds as Colour-next-filter-kinds
-use Rattle.sensor.proofs.colour.Colour.next_filter.Reads as Colour-next-filter
 use Rattle.sensor.proofs.colour.Colour.sent.Kinds as Colour-sent-kinds
 use Rattle.sensor.proofs.colour.Colour.sent.Reads as Colour-sent
 use Rattle.sensor.proofs.colour.Colour.settled.Kinds as Colour-settled-kinds
@@ -52,8 +50,8 @@ use Rattle.sensor.proofs.kind.Kind.information.Kinds as Kind-informatio
 use Rattle.sensor.proofs.kind.Kind.information.Reads as Kind-information
 use Rattle.sensor.proofs.kind.Kind.input.Kinds as Kind-input-kinds
 use Rattle.sensor.proofs.kind.Kind.input.Reads as Kind-input
-use Rattle.sensor.proofs.kind.Kind.next_filter.Kinds as Kind-next-filter-kinds
-use Rattle.sensor.proofs.kind.Kind.next_filter.Reads as Kind-next-filter
+use Rattle.sensor.proofs.kind.Kind.kept.Kinds as Kind-kept-kinds
+use Rattle.sensor.proofs.kind.Kind.kept.Reads as Kind-kept
 use Rattle.sensor.proofs.kind.Kind.repeat.Kinds as Kind-repeat-kinds
 use Rattle.sensor.proofs.kind.Kind.repeat.Reads as Kind-repeat
 use Rattle.sensor.proofs.kind.Kind.resolution.Kinds as Kind-resolution-kinds
@@ -194,8 +192,8 @@ Kind-sensor-type-unique κs a x y s t p q = p ∙ sym q
 pub Kind-resolution-unique : Unique 0 Kind-resolution-kinds.ps Kind-resolution-kinds.r Kind-resolution.Post
 Kind-resolution-unique κs a x y s t p q = p ∙ sym q
 
-pub Kind-next-filter-unique : Unique 0 Kind-next-filter-kinds.ps Kind-next-filter-kinds.r Kind-next-filter.Post
-Kind-next-filter-unique κs a x y s t p q = p ∙ sym q
+pub Kind-kept-unique : Unique 0 Kind-kept-kinds.ps Kind-kept-kinds.r Kind-kept.Post
+Kind-kept-unique κs a x y s t p q = p ∙ sym q
 
 pub Kind-input-unique : Unique 0 Kind-input-kinds.ps Kind-input-kinds.r Kind-input.Post
 Kind-input-unique κs a x y s t p q = p ∙ sym q
@@ -352,9 +350,6 @@ Colour-information-unique κs a x y s t p q = p ∙ sym q
 
 pub Colour-input-unique : Unique 0 Colour-input-kinds.ps Colour-input-kinds.r Colour-input.Post
 Colour-input-unique κs a x y s t p q = p ∙ sym q
-
-pub Colour-next-filter-unique : Unique 0 Colour-next-filter-kinds.ps Colour-next-filter-kinds.r Colour-next-filter.Post
-Colour-next-filter-unique κs a x y s t p q = p ∙ sym q
 
 pub Colour-settled-unique : Unique 0 Colour-settled-kinds.ps Colour-settled-kinds.r Colour-settled.Post
 Colour-settled-unique κs a x y s t p q = p ∙ sym q

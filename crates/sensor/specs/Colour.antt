@@ -56,7 +56,3 @@ colourInformation c = colours.information (c .shown .value)
 -- ---- inputValue (9.3.1): three bytes, MASK for status 1 and 2
 unfoldable pub colourInput : Colour → ℕ
 colourInput c = cond (eqb (c .shown .status) 0) (c .shown .value) 0xFFFFFF
-
--- ---- 68 (11.8.2): a filter out of range is discarded
-unfoldable pub colourNextFilter : (filter d : ℕ) → ℕ
-colourNextFilter filter d = cond (ltb 1 d) filter d

@@ -1,7 +1,7 @@
 -- What each type of sensor gives to a tick, to commands and to queries (document 01, "Each type carries its own defaults, units and opcodes").
 -- Assumes nothing.
 use Prim.Native.Nat.{ℕ}
-use Rattle.sensor.specs.Colour.{colourAllows, colourCause, colourInformation, colourInput, colourNextFilter, colourSent, colourTaken, colourUnits}
+use Rattle.sensor.specs.Colour.{colourAllows, colourCause, colourInformation, colourInput, colourSent, colourTaken, colourUnits}
 use Rattle.sensor.specs.Light.{lightAllows, lightCause, lightInformation, lightInput, lightRepeat, lightSent, lightTaken, lightUnits}
 use Rattle.sensor.specs.Movement.{movementAllowing, movementAllows, movementCancelled, movementCaught, movementCause, movementInformation, movementInput, movementSent, movementTaken}
 use Rattle.sensor.specs.Occupancy.{occupancyAllowing, occupancyAllows, occupancyCause, occupancyInformation, occupancyInput, occupancyRepeat, occupancySent, occupancyTaken, occupancyUnits}
@@ -11,7 +11,6 @@ use Rattle.sensor.specs.declared.settings.Sample.{Sample}
 use Rattle.sensor.specs.declared.settings.Settings.{Settings}
 use Rattle.timers.specs.declared.Rules.{Rules}
 use Rattle.timers.specs.declared.Units.{Units}
-use lib.Bits.{bitAnd}
 use mathlib.Core.Bool.{Bool, false}
 
 -- ---- for a tick
@@ -68,12 +67,12 @@ resolution (Occupancy o) = 2
 resolution (Movement m) = 2
 resolution (Colour c) = 24
 
--- 68: the filter that DTR0 makes of the one there is. Of DTR0 light keeps bit 0, occupancy bits 0 to 4
-unfoldable pub nextFilter : Kind → (filter d : ℕ) → ℕ
-nextFilter (Light l) filter d = bitAnd d 1
-nextFilter (Occupancy o) filter d = bitAnd d 31
-nextFilter (Movement m) filter d = bitAnd d 31
-nextFilter (Colour c) filter d = colourNextFilter filter d
+-- the filter bits kept: light 0, occupancy 0 to 4, colour 0
+unfoldable pub kept : Kind → ℕ
+kept (Light l) = 1
+kept (Occupancy o) = 31
+kept (Movement m) = 31
+kept (Colour c) = 1
 
 unfoldable pub input : Kind → ℕ
 input (Light l) = lightInput l

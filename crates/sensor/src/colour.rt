@@ -6,7 +6,7 @@ use crate::light::width;
 use crate::settings::Sample;
 use crate::settings::Settings;
 use timers::Units;
-ghost use Rattle.sensor.specs.Colour.{colourAllows, colourCause, colourInformation, colourInput, colourNextFilter, colourSent, colourTaken};
+ghost use Rattle.sensor.specs.Colour.{colourAllows, colourCause, colourInformation, colourInput, colourSent, colourTaken};
 ghost use Rattle.sensor.specs.Fresh.{colourFresh};
 ghost use Rattle.sensor.specs.Quiet.{colourSettled};
 ghost use mathlib.Core.Path.{_≡_};
@@ -39,6 +39,9 @@ impl Colour {
         dead: 1,
         report: 100,
     };
+
+    // The filter bits kept: bit 0.
+    pub const KEPT: u8 = 1;
 
     // The opcodes of colour alone (IEC 62386-305, Table 11).
     pub const SET_REPORT: u8 = 0x40;
@@ -153,13 +156,6 @@ impl Colour {
         } else {
             0xFFFFFF
         }
-    }
-
-    // A filter of 0 or 1; else no change.
-    pub fn next_filter(filter: u8, d: u8) -> u8
-        ensures { λ r. ⌜ r ≡ colourNextFilter filter d ⌝ }
-    {
-        if 1 < d { filter } else { d }
     }
 
     // Taking the held sample again changes nothing.

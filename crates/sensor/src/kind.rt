@@ -7,7 +7,7 @@ use crate::settings::Sample;
 use crate::settings::Settings;
 use timers::Rules;
 use timers::Units;
-ghost use Rattle.sensor.specs.Kind.{allowing, allows, cancelled, catching, caught, cause, information, input, nextFilter, repeat, resolution, rules, sensorType, sent, taken, units};
+ghost use Rattle.sensor.specs.Kind.{allowing, allows, cancelled, catching, caught, cause, information, input, kept, repeat, resolution, rules, sensorType, sent, taken, units};
 ghost use Rattle.sensor.specs.Quiet.{fallsFor, restedKind, settled};
 ghost use mathlib.Core.Path.{_≡_};
 
@@ -154,15 +154,15 @@ impl Kind {
         }
     }
 
-    // The filter that DTR0 makes of the one there is.
-    pub fn next_filter(self, filter: u8, d: u8) -> u8
-        ensures { λ r. ⌜ r ≡ nextFilter self filter d ⌝ }
+    // The filter bits that the type keeps.
+    pub fn kept(self) -> u8
+        ensures { λ r. ⌜ r ≡ kept self ⌝ }
     {
         match self {
-            Kind::Light(_) => d & Light::KEPT,
-            Kind::Occupancy(_) => d & Occupancy::KEPT,
-            Kind::Movement(_) => d & Occupancy::KEPT,
-            Kind::Colour(_) => Colour::next_filter(filter, d),
+            Kind::Light(_) => Light::KEPT,
+            Kind::Occupancy(_) => Occupancy::KEPT,
+            Kind::Movement(_) => Occupancy::KEPT,
+            Kind::Colour(_) => Colour::KEPT,
         }
     }
 
