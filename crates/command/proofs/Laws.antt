@@ -1,18 +1,18 @@
 -- Document 01, "Frames", with M-103 and M-100: what its sentences on commands and queries say of the definitions.
 -- Assumes nothing.
 use Prim.Native.Nat.{ℕ, _<_, _≤_}
-use Rattle.command.specs.Answering.{ButLatch, acted, actedBy, answered, latched, queried}
+use Rattle.command.specs.Answering.{ButLatch, acted, actedBy, answered, countedUp, latched, leaving, queried}
 use Rattle.command.specs.Controlling.{ButControl, ButHoldAndCatching, controlled, controlledKind}
 use Rattle.command.specs.Setting.{blockChanged, boundedHysteresis, boundedPriority, changed, filtered, obeyed, retimed, retimedDead, retimedReport}
 use Rattle.command.specs.declared.answering.Answer.the-variants.{None}
-use Rattle.opcode.specs.Meaning.{isControl, isSetting, meant}
-use Rattle.opcode.specs.declared.Command.the-variants.{Disable, Enable, SetDeadtime, SetFilter, SetHold, SetHysteresis, SetHysteresisMin, SetPriority, SetReport}
+use Rattle.opcode.specs.Meaning.{countsUp, isControl, isSetting, meant}
+use Rattle.opcode.specs.declared.Command.the-variants.{Disable, Enable, SetDeadtime, SetFilter, SetHold, SetHysteresis, SetHysteresisMin, SetPriority, SetReport, SetValidFilter}
 use Rattle.opcode.specs.declared.Command.{Command}
 use Rattle.opcode.specs.declared.Control.the-variants.{CancelHold, CatchMovement}
 use Rattle.opcode.specs.declared.Control.{Control}
 use Rattle.opcode.specs.declared.Meaning.the-variants.{Act, Ask, Ignored, Set}
 use Rattle.opcode.specs.declared.Meaning.{Meaning}
-use Rattle.opcode.specs.declared.Query.the-variants.{QueryNext, QueryValue, QueryVariable}
+use Rattle.opcode.specs.declared.Query.the-variants.{QueryColourSensor, QueryNext, QueryValue, QueryVariable}
 use Rattle.opcode.specs.declared.Query.{Query}
 use Rattle.sensor.specs.Fresh.{fresh}
 use Rattle.sensor.specs.Instance.{withSettings, withTimers}
@@ -21,7 +21,7 @@ use Rattle.sensor.specs.Movement.{movementAllowing, movementCancelled, movement
 use Rattle.sensor.specs.Occupancy.{occupancyAllowing}
 use Rattle.sensor.specs.Settings.{withDeadtime, withReport}
 use Rattle.sensor.specs.declared.instance.Instance.{Instance}
-use Rattle.sensor.specs.declared.kind.Kind.the-variants.{Light, Movement, Occupancy}
+use Rattle.sensor.specs.declared.kind.Kind.the-variants.{Colour, Light, Movement, Occupancy}
 use Rattle.sensor.specs.declared.kind.Kind.{Kind}
 use Rattle.sensor.specs.declared.movement.Movement.{Movement as MovementState}
 use Rattle.sensor.specs.declared.occupancy.Occupancy.{Occupancy as OccupancyState}
@@ -39,11 +39,12 @@ use native.Mathlib.Nat.{le-max-left, ne-of-gt}
 use native.Mathlib.Omega.{arith}
 
 -- ---- a query changes nothing but the latch
-pub query-keeps : (x : Instance) (q : Query) → ButLatch x (queried x q .instance)
+pub query-keeps : (x : Instance) (q : Query) (d : ℕ) → ButLatch x (queried x q d .instance)
 unfolding answered queried
-query-keeps x (QueryVariable variable) = refl
-query-keeps x QueryValue = refl
-query-keeps x QueryNext = refl
+query-keeps x (QueryVariable variable) d = refl
+query-keeps x QueryValue d = refl
+query-keeps x QueryNext d = refl
+query-keeps x QueryColourSensor d = refl
 
 -- ---- what byte 3 does
 -- anything but a setting command and a control instruction keeps the settings, the timers and the rest
@@ -51,7 +52,7 @@ by-keeps : (x : Instance) (m : Meaning) (d : ℕ) → isSetting m ≡ false → 
 unfolding actedBy isSetting isControl
 by-keeps x (Set c) d e f = absurd (true≢false e)
 by-keeps x (Act c) d e f = absurd (true≢false f)
-by-keeps x (Ask q) d e f = query-keeps x q
+by-keeps x (Ask q) d e f = query-keeps x q d
 by-keeps x Ignored d e f = refl
 
 pub calm-keeps : (x : Instance) (opcode dtr0 : ℕ) → isSetting (meant (x .kind) opcode) ≡ false → isControl (meant (x .kind) opcode) ≡ false
@@ -68,6 +69,8 @@ control-kind (Occupancy o) CatchMovement s = refl
 control-kind (Occupancy o) CancelHold s = refl
 control-kind (Movement m) CatchMovement s = (m .hold, _, refl)
 control-kind (Movement m) CancelHold s = (_, m .catching, refl)
+control-kind (Colour c) CatchMovement s = refl
+control-kind (Colour c) CancelHold s = refl
 
 pub control-changes : (x : Instance) (c : Control) → ButControl x (controlled x c)
 unfolding controlled
@@ -80,9 +83,10 @@ changes-nothing x = (go (x .kind), refl)
     go (Light l) = refl
     go (Occupancy o) = refl
     go (Movement m) = (m .hold, m .catching, refl)
+    go (Colour c) = refl
 
 pub acts-so : (x : Instance) (opcode dtr0 : ℕ) (c : Control) → meant (x .kind) opcode ≡ Act c
-    → acted x opcode dtr0 ≡ record { instance = controlled x c; answer = None }
+    → acted x opcode dtr0 ≡ leaving (controlled x c) dtr0 None
 unfolding acted actedBy
 acts-so x opcode dtr0 c e = rw e
 
@@ -95,6 +99,8 @@ rules-controlled (Occupancy o) CatchMovement s = refl
 rules-controlled (Occupancy o) CancelHold s = refl
 rules-controlled (Movement m) CatchMovement s = refl
 rules-controlled (Movement m) CancelHold s = refl
+rules-controlled (Colour c) CatchMovement s = refl
+rules-controlled (Colour c) CancelHold s = refl
 
 by-untimed : (x : Instance) (m : Meaning) (d : ℕ) → isSetting m ≡ false
     → (rules (actedBy x m d .instance .kind) (actedBy x m d .instance .settings) ≡ rules (x .kind) (x .settings))
@@ -102,7 +108,7 @@ by-untimed : (x : Instance) (m : Meaning) (d : ℕ) → isSetting m ≡ false
 unfolding actedBy controlled isSetting
 by-untimed x (Set c) d e = absurd (true≢false e)
 by-untimed x (Act c) d e = (rules-controlled (x .kind) c (x .settings), refl)
-by-untimed x (Ask q) d e = let keeps = query-keeps x q in (ap (λ y. rules (y .kind) (y .settings)) keeps, ap (λ y. y .timers) keeps)
+by-untimed x (Ask q) d e = let keeps = query-keeps x q d in (ap (λ y. rules (y .kind) (y .settings)) keeps, ap (λ y. y .timers) keeps)
 by-untimed x Ignored d e = (refl, refl)
 
 pub calm-untimed : (x : Instance) (opcode dtr0 : ℕ) → isSetting (meant (x .kind) opcode) ≡ false
@@ -124,7 +130,7 @@ unfolding acted
 setting-silent x opcode dtr0 e = by-silent x (meant (x .kind) opcode) dtr0 e
 
 -- anything else is ignored: no change, no answer
-pub ignored-nothing : (x : Instance) (opcode dtr0 : ℕ) → meant (x .kind) opcode ≡ Ignored → acted x opcode dtr0 ≡ record { instance = x; answer = None }
+pub ignored-nothing : (x : Instance) (opcode dtr0 : ℕ) → meant (x .kind) opcode ≡ Ignored → acted x opcode dtr0 ≡ leaving x dtr0 None
 unfolding acted actedBy
 ignored-nothing x opcode dtr0 e = rw e
 
@@ -133,7 +139,7 @@ by-held : (x : Instance) (m : Meaning) (d : ℕ) → actedBy x m d .instance .he
 unfolding actedBy controlled obeyed blockChanged
 by-held x (Set c) d = refl
 by-held x (Act c) d = refl
-by-held x (Ask q) d = ap (λ y. y .held) (query-keeps x q)
+by-held x (Ask q) d = ap (λ y. y .held) (query-keeps x q d)
 by-held x Ignored d = refl
 
 pub held-kept : (x : Instance) (opcode dtr0 : ℕ) → acted x opcode dtr0 .instance .held ≡ x .held
@@ -144,12 +150,45 @@ by-failed : (x : Instance) (m : Meaning) (d : ℕ) → actedBy x m d .instance .
 unfolding actedBy controlled obeyed blockChanged
 by-failed x (Set c) d = refl
 by-failed x (Act c) d = refl
-by-failed x (Ask q) d = ap (λ y. y .failed) (query-keeps x q)
+by-failed x (Ask q) d = ap (λ y. y .failed) (query-keeps x q d)
 by-failed x Ignored d = refl
 
 pub failed-kept : (x : Instance) (opcode dtr0 : ℕ) → acted x opcode dtr0 .instance .failed ≡ x .failed
 unfolding acted
 failed-kept x opcode dtr0 = by-failed x (meant (x .kind) opcode) dtr0
+
+-- M-104: DTR0 is left as it was by all but the colour query, which counts it up
+query-leaves : (x : Instance) (q : Query) (d : ℕ) → countsUp (Ask q) ≡ false → queried x q d .dtr0 ≡ d
+unfolding queried answered countsUp
+query-leaves x (QueryVariable variable) d e = refl
+query-leaves x QueryValue d e = refl
+query-leaves x QueryNext d e = refl
+query-leaves x QueryColourSensor d e = absurd (true≢false e)
+
+by-leaves : (x : Instance) (m : Meaning) (d : ℕ) → countsUp m ≡ false → actedBy x m d .dtr0 ≡ d
+unfolding actedBy
+by-leaves x (Set c) d e = refl
+by-leaves x (Act c) d e = refl
+by-leaves x (Ask q) d e = query-leaves x q d e
+by-leaves x Ignored d e = refl
+
+pub dtr0-left : (x : Instance) (opcode dtr0 : ℕ) → countsUp (meant (x .kind) opcode) ≡ false → acted x opcode dtr0 .dtr0 ≡ dtr0
+unfolding acted
+dtr0-left x opcode dtr0 e = by-leaves x (meant (x .kind) opcode) dtr0 e
+
+by-counts : (x : Instance) (m : Meaning) (d : ℕ) → countsUp m ≡ true → actedBy x m d .dtr0 ≡ countedUp d
+unfolding actedBy queried countsUp
+by-counts x (Set c) d e = absurd (false≢true e)
+by-counts x (Act c) d e = absurd (false≢true e)
+by-counts x (Ask (QueryVariable variable)) d e = absurd (false≢true e)
+by-counts x (Ask QueryValue) d e = absurd (false≢true e)
+by-counts x (Ask QueryNext) d e = absurd (false≢true e)
+by-counts x (Ask QueryColourSensor) d e = refl
+by-counts x Ignored d e = absurd (false≢true e)
+
+pub dtr0-counted : (x : Instance) (opcode dtr0 : ℕ) → countsUp (meant (x .kind) opcode) ≡ true → acted x opcode dtr0 .dtr0 ≡ countedUp dtr0
+unfolding acted
+dtr0-counted x opcode dtr0 e = by-counts x (meant (x .kind) opcode) dtr0 e
 
 -- ---- a command keeps the type, so what the decision goes by depends on the settings alone
 rules-allowed : (k : Kind) (filter : ℕ) (s : Settings) → rules (allowing k filter) s ≡ rules k s
@@ -157,6 +196,7 @@ unfolding allowing repeat rules units
 rules-allowed (Light l) filter s = refl
 rules-allowed (Occupancy o) filter s = refl
 rules-allowed (Movement m) filter s = refl
+rules-allowed (Colour c) filter s = refl
 
 pub rules-allowing : (k : Kind) (c : Command) (filter : ℕ) (s : Settings) → rules (filtered k c filter) s ≡ rules k s
 unfolding filtered
@@ -169,6 +209,7 @@ rules-allowing k SetDeadtime filter s = refl
 rules-allowing k SetHysteresis filter s = refl
 rules-allowing k SetHysteresisMin filter s = refl
 rules-allowing k SetHold filter s = refl
+rules-allowing k SetValidFilter filter s = rules-allowed k filter s
 
 pub obeyed-settings : (x : Instance) (c : Command) (d : ℕ) → obeyed x c d .settings ≡ changed (x .settings) c d (kept (x .kind))
 unfolding obeyed blockChanged
@@ -269,11 +310,11 @@ unfolding allowing filtered movementAllowing occupancyAllowing
 disabling-clears-movement m filter = rw (and-zero-r (m .seen .waiting))
 
 -- ---- the latch: 8D answers none when it is used up
-pub used-up : (x : Instance) → x .latch .left ≡ 0 → queried x QueryNext .answer ≡ None
+pub used-up : (x : Instance) (d : ℕ) → x .latch .left ≡ 0 → queried x QueryNext d .answer ≡ None
 unfolding queried latched answered
-used-up x e = rw (eq-eqb (x .latch .left) 0 e)
+used-up x d e = rw (eq-eqb (x .latch .left) 0 e)
 
 -- or when nothing was latched
-pub nothing-latched : (k : Kind) (s : Settings) (held : Sample) → queried (fresh k s held) QueryNext .answer ≡ None
+pub nothing-latched : (k : Kind) (s : Settings) (held : Sample) (d : ℕ) → queried (fresh k s held) QueryNext d .answer ≡ None
 unfolding fresh
-nothing-latched k s held = used-up (fresh k s held) refl
+nothing-latched k s held d = used-up (fresh k s held) d refl

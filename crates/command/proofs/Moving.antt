@@ -6,7 +6,7 @@ use Rattle.command.specs.Answering.{acted, actedBy}
 use Rattle.command.specs.Controlling.{controlled, controlledKind}
 use Rattle.command.specs.Setting.{blockChanged, filtered, obeyed}
 use Rattle.opcode.specs.Meaning.{meant}
-use Rattle.opcode.specs.declared.Command.the-variants.{Disable, Enable, SetDeadtime, SetFilter, SetHold, SetHysteresis, SetHysteresisMin, SetPriority, SetReport}
+use Rattle.opcode.specs.declared.Command.the-variants.{Disable, Enable, SetDeadtime, SetFilter, SetHold, SetHysteresis, SetHysteresisMin, SetPriority, SetReport, SetValidFilter}
 use Rattle.opcode.specs.declared.Command.{Command}
 use Rattle.opcode.specs.declared.Control.the-variants.{CancelHold, CatchMovement}
 use Rattle.opcode.specs.declared.Control.{Control}
@@ -37,13 +37,14 @@ module _ (P : Kind → Type 0) where
   command-by k SetHysteresis filter was fewer = was
   command-by k SetHysteresisMin filter was fewer = was
   command-by k SetHold filter was fewer = was
+  command-by k SetValidFilter filter was fewer = fewer filter
 
   meaning-by : (x : Instance) (m : Meaning) (d : ℕ) → P (x .kind) → ((allowed : ℕ) → P (allowing (x .kind) allowed))
       → ((c : Control) → m ≡ Act c → P (controlledKind (x .kind) c (x .settings))) → P (actedBy x m d .instance .kind)
   unfolding actedBy controlled obeyed blockChanged
   meaning-by x (Set c) d was fewer acts = command-by (x .kind) c _ was fewer
   meaning-by x (Act c) d was fewer acts = acts c refl
-  meaning-by x (Ask q) d was fewer acts = subst P (sym (ap (λ y. y .kind) (query-keeps x q))) was
+  meaning-by x (Ask q) d was fewer acts = subst P (sym (ap (λ y. y .kind) (query-keeps x q d))) was
   meaning-by x Ignored d was fewer acts = was
 
 -- ---- the value and the hold timer: all but cancel hold leaves them

@@ -4,7 +4,7 @@
 use Prim.Native.Nat.{ℕ}
 use Rattle.command.specs.Setting.{filtered, retimed}
 use Rattle.opcode.proofs.Command as C
-use Rattle.opcode.specs.declared.Command.the-variants.{Disable, Enable, SetDeadtime, SetFilter, SetHold, SetHysteresis, SetHysteresisMin, SetPriority, SetReport}
+use Rattle.opcode.specs.declared.Command.the-variants.{Disable, Enable, SetDeadtime, SetFilter, SetHold, SetHysteresis, SetHysteresisMin, SetPriority, SetReport, SetValidFilter}
 use Rattle.opcode.specs.declared.Command.{Command}
 use Rattle.sensor.specs.declared.kind.Kind.{Kind}
 use Rattle.timers.specs.declared.Rules.{Rules}
@@ -19,7 +19,7 @@ tags cs = map (tagOf C.the-type) cs
 
 -- every command but SetReport and SetDeadtime keeps the timers
 abbrev no-time : List ℕ
-no-time = tags (SetPriority ∷ Enable ∷ Disable ∷ SetFilter ∷ SetHysteresis ∷ SetHysteresisMin ∷ SetHold ∷ [])
+no-time = tags (SetPriority ∷ Enable ∷ Disable ∷ SetFilter ∷ SetHysteresis ∷ SetHysteresisMin ∷ SetHold ∷ SetValidFilter ∷ [])
 
 pub same-timers : (t : Timers) (x : Command) (r : Rules) → OneOf no-time (tagOf C.the-type x) → t ≡ retimed t x r
 unfolding retimed
@@ -32,8 +32,9 @@ same-timers t SetDeadtime r h = absurd (miss no-time (tagOf C.the-type SetDeadti
 same-timers t SetHysteresis r h = refl
 same-timers t SetHysteresisMin r h = refl
 same-timers t SetHold r h = refl
+same-timers t SetValidFilter r h = refl
 
--- every command but Disable and SetFilter keeps the waiting triggers
+-- every command but Disable, SetFilter and SetValidFilter keeps the waiting triggers
 abbrev no-loss : List ℕ
 no-loss = tags (SetPriority ∷ Enable ∷ SetReport ∷ SetDeadtime ∷ SetHysteresis ∷ SetHysteresisMin ∷ SetHold ∷ [])
 
@@ -48,3 +49,4 @@ same-kind k SetDeadtime filter h = refl
 same-kind k SetHysteresis filter h = refl
 same-kind k SetHysteresisMin filter h = refl
 same-kind k SetHold filter h = refl
+same-kind k SetValidFilter filter h = absurd (miss no-loss (tagOf C.the-type SetValidFilter) tt h)

@@ -1,6 +1,6 @@
--- Document 01, "Frames", with M-100: what a query is answered, with the latch of inputValue, and what byte 3 does in all.
+-- Document 01, "Frames", with M-100 and M-104: what a query is answered, with the latch of inputValue, and what byte 3 does in all.
 -- Assumes nothing.
-use Prim.Native.Nat.{ℕ, _%_, _-_, _/_, _^_}
+use Prim.Native.Nat.{ℕ, _%_, _+_, _-_, _/_, _^_}
 use Rattle.command.specs.Controlling.{controlled}
 use Rattle.command.specs.Setting.{obeyed}
 use Rattle.command.specs.declared.answering.Acted.{Acted}
@@ -10,17 +10,22 @@ use Rattle.command.specs.declared.answering.Piece.{Piece}
 use Rattle.opcode.specs.Meaning.{meant}
 use Rattle.opcode.specs.declared.Meaning.the-variants.{Act, Ask, Ignored, Set}
 use Rattle.opcode.specs.declared.Meaning.{Meaning}
-use Rattle.opcode.specs.declared.Query.the-variants.{QueryNext, QueryValue, QueryVariable}
+use Rattle.opcode.specs.declared.Query.the-variants.{QueryColourSensor, QueryNext, QueryValue, QueryVariable}
 use Rattle.opcode.specs.declared.Query.{Query}
 use Rattle.opcode.specs.declared.Variable.the-variants.{Catching, Deadtime, Enabled, Error, Filter, Hold, Hysteresis, HysteresisMin, Priority, Report, Resolution, SensorType, Status}
 use Rattle.opcode.specs.declared.Variable.{Variable}
+use Rattle.rgb.specs.Annex.{parameter}
 use Rattle.sensor.specs.Instance.{withLatch}
 use Rattle.sensor.specs.Kind.{catching, input, resolution, sensorType}
 use Rattle.sensor.specs.declared.instance.Instance.{Instance}
 use Rattle.widen.specs.Width.{inputBytes}
-use lib.Dec.{eqb}
+use lib.Dec.{eqb, ltb}
 use mathlib.Core.Bool.{Bool, cond}
 use mathlib.Core.Path.{_≡_}
+
+-- WHAT BYTE 3 LEAVES: the instance, DTR0, which all instances share, and what is answered. Only this lists every part
+abbrev pub leaving : Instance → (dtr0 : ℕ) → Answer → Acted
+leaving x dtr0 answer = record { instance = x; dtr0 = dtr0; answer = answer }
 
 -- byte k of a value, counted from the lowest
 unfoldable pub byteAt : (v k : ℕ) → ℕ
@@ -58,21 +63,31 @@ latched bytes left =
     (record { answer = None; latch = record { left = 0; bytes = bytes } })
     (record { answer = Byte (byteAt bytes (left - 1)); latch = record { left = left - 1; bytes = bytes } })
 
-unfoldable pub answered : Instance → Piece → Acted
-answered x l = record { instance = withLatch (l .latch) x; answer = l .answer }
+unfoldable pub answered : Instance → Piece → (dtr0 : ℕ) → Acted
+answered x l dtr0 = leaving (withLatch (l .latch) x) dtr0 (l .answer)
 
--- ---- a query changes nothing but the latch: 8C latches inputValue and answers its top byte, 8D answers the next
-unfoldable pub queried : Instance → Query → Acted
-queried x (QueryVariable variable) = record { instance = x; answer = valueOf x variable }
-queried x QueryValue = answered x (latched (input (x .kind)) (inputBytes (resolution (x .kind))))
-queried x QueryNext = answered x (latched (x .latch .bytes) (x .latch .left))
+-- ---- M-104, after IEC 62386-305, 11.9.2: the colour query
+-- each counts DTR0 up by 1, from 255 to 0
+unfoldable pub countedUp : (dtr0 : ℕ) → ℕ
+countedUp dtr0 = (dtr0 + 1) % 256
+
+-- there are 15 parameters; a DTR0 behind them has no answer
+unfoldable pub colourAnswer : (dtr0 : ℕ) → Answer
+colourAnswer dtr0 = onlyIf (ltb dtr0 15) (parameter dtr0)
+
+-- ---- a query changes nothing but the latch: 8C latches inputValue and answers its top byte, 8D answers the next; and but for DTR0, which 4B counts up
+unfoldable pub queried : Instance → Query → (dtr0 : ℕ) → Acted
+queried x (QueryVariable variable) dtr0 = leaving x dtr0 (valueOf x variable)
+queried x QueryValue dtr0 = answered x (latched (input (x .kind)) (inputBytes (resolution (x .kind)))) dtr0
+queried x QueryNext dtr0 = answered x (latched (x .latch .bytes) (x .latch .left)) dtr0
+queried x QueryColourSensor dtr0 = leaving x (countedUp dtr0) (colourAnswer dtr0)
 
 -- ---- what byte 3 does: a setting command and a control instruction answer nothing; anything else is ignored
 unfoldable pub actedBy : Instance → Meaning → (dtr0 : ℕ) → Acted
-actedBy x (Set command) dtr0 = record { instance = obeyed x command dtr0; answer = None }
-actedBy x (Act control) dtr0 = record { instance = controlled x control; answer = None }
-actedBy x (Ask query) dtr0 = queried x query
-actedBy x Ignored dtr0 = record { instance = x; answer = None }
+actedBy x (Set command) dtr0 = leaving (obeyed x command dtr0) dtr0 None
+actedBy x (Act control) dtr0 = leaving (controlled x control) dtr0 None
+actedBy x (Ask query) dtr0 = queried x query dtr0
+actedBy x Ignored dtr0 = leaving x dtr0 None
 
 unfoldable pub acted : Instance → (opcode dtr0 : ℕ) → Acted
 acted x opcode dtr0 = actedBy x (meant (x .kind) opcode) dtr0

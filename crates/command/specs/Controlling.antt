@@ -7,7 +7,7 @@ use Rattle.sensor.specs.Instance.{withKind}
 use Rattle.sensor.specs.Kind.{cancelled, caught}
 use Rattle.sensor.specs.Movement.{withCatching, withHoldLeft}
 use Rattle.sensor.specs.declared.instance.Instance.{Instance}
-use Rattle.sensor.specs.declared.kind.Kind.the-variants.{Light, Movement, Occupancy}
+use Rattle.sensor.specs.declared.kind.Kind.the-variants.{Colour, Light, Movement, Occupancy}
 use Rattle.sensor.specs.declared.kind.Kind.{Kind}
 use Rattle.sensor.specs.declared.settings.Settings.{Settings}
 use mathlib.Core.Bool.{Bool}
@@ -25,6 +25,7 @@ abbrev pub ButHoldAndCatching : (k k′ : Kind) → Type 0
 ButHoldAndCatching (Light l) k′ = k′ ≡ Light l
 ButHoldAndCatching (Occupancy o) k′ = k′ ≡ Occupancy o
 ButHoldAndCatching (Movement m) k′ = (left : ℕ) × (catching : Bool) × (k′ ≡ Movement (withHoldLeft left (withCatching catching m)))
+ButHoldAndCatching (Colour c) k′ = k′ ≡ Colour c
 
 -- and y is x but for these
 abbrev pub ButControl : (x y : Instance) → Type 0

@@ -1,7 +1,7 @@
--- Document 01, "Frames", with M-103 and M-100: what a setting command makes of the settings, of the timers and of the waiting triggers.
+-- Document 01, "Frames", with M-103, M-100 and M-104: what a setting command makes of the settings, of the timers and of the waiting triggers.
 -- Assumes nothing.
 use Prim.Native.Nat.{ℕ}
-use Rattle.opcode.specs.declared.Command.the-variants.{Disable, Enable, SetDeadtime, SetFilter, SetHold, SetHysteresis, SetHysteresisMin, SetPriority, SetReport}
+use Rattle.opcode.specs.declared.Command.the-variants.{Disable, Enable, SetDeadtime, SetFilter, SetHold, SetHysteresis, SetHysteresisMin, SetPriority, SetReport, SetValidFilter}
 use Rattle.opcode.specs.declared.Command.{Command}
 use Rattle.sensor.specs.Instance.{withKind, withSettings, withTimers}
 use Rattle.sensor.specs.Kind.{allowing, kept, rules}
@@ -31,6 +31,10 @@ boundedHysteresis s d = cond (ltb 25 d) s (withHysteresis d s)
 unfoldable pub boundedHold : Settings → (d : ℕ) → Settings
 boundedHold s d = cond (eqb d 255) s (withHold d s)
 
+-- M-104, after IEC 62386-305, 11.8.2: a filter out of range, above the bits that are kept, is discarded
+unfoldable pub boundedFilter : Settings → (d kept : ℕ) → Settings
+boundedFilter s d kept = cond (ltb kept d) s (withFilter d s)
+
 -- of a new filter only the kept bits
 unfoldable pub changed : Settings → Command → (dtr0 kept : ℕ) → Settings
 changed s SetPriority d kept = boundedPriority s d
@@ -42,6 +46,7 @@ changed s SetDeadtime d kept = withDeadtime d s
 changed s SetHysteresis d kept = boundedHysteresis s d
 changed s SetHysteresisMin d kept = withMinimum d s
 changed s SetHold d kept = boundedHold s d
+changed s SetValidFilter d kept = boundedFilter s d kept
 
 -- ---- the timers after a command: a new time serves from the next start of its timer, with three exceptions
 -- report set to 0 stops the report timer at once; report set above 0 while stopped starts it at once
@@ -63,6 +68,7 @@ retimed t SetFilter r = t
 retimed t SetHysteresis r = t
 retimed t SetHysteresisMin r = t
 retimed t SetHold r = t
+retimed t SetValidFilter r = t
 
 -- ---- the waiting triggers after a command: disabling clears them; a new filter keeps only those it allows
 unfoldable pub filtered : Kind → Command → (filter : ℕ) → Kind
@@ -75,15 +81,16 @@ filtered k SetDeadtime filter = k
 filtered k SetHysteresis filter = k
 filtered k SetHysteresisMin filter = k
 filtered k SetHold filter = k
+filtered k SetValidFilter filter = allowing k filter
 
 -- ---- the instance after a command
 -- its settings block changed, and nothing else
-unfoldable pub blockChanged : Instance → Command → (dtr0 : ℕ) → Instance
-blockChanged x command d = withSettings (changed (x .settings) command d (kept (x .kind))) x
+unfoldable pub blockChanged : Instance → Command → (dtr0 kept : ℕ) → Instance
+blockChanged x command d kept = withSettings (changed (x .settings) command d kept) x
 
 abbrev pub obeyedBy : Instance → Command → Instance
 obeyedBy x command =
     withKind (filtered (x .kind) command (x .settings .filter)) (withTimers (retimed (x .timers) command (rules (x .kind) (x .settings))) x)
 
 unfoldable pub obeyed : Instance → Command → (dtr0 : ℕ) → Instance
-obeyed x command d = obeyedBy (blockChanged x command d) command
+obeyed x command d = obeyedBy (blockChanged x command d (kept (x .kind))) command

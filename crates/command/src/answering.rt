@@ -3,7 +3,7 @@ use opcode::Query;
 use opcode::Variable;
 use sensor::Instance;
 use sensor::Latch;
-ghost use Rattle.command.specs.Answering.{answered, byteAt, latched, onlyIf, queried, status, valueOf};
+ghost use Rattle.command.specs.Answering.{answered, byteAt, countedUp, latched, onlyIf, queried, status, valueOf};
 ghost use mathlib.Core.Path.{_≡_};
 
 pub enum Answer {
@@ -11,9 +11,10 @@ pub enum Answer {
     Byte(u8),
 }
 
-// The instance as byte 3 leaves it, and what it answers.
+// What byte 3 leaves: the instance, DTR0, and what is answered.
 pub struct Acted {
     pub instance: Instance,
+    pub dtr0: u8,
     pub answer: Answer,
 }
 
@@ -23,9 +24,9 @@ struct Piece {
     latch: Latch,
 }
 
-// A query changes nothing but the latch.
-pub fn queried(x: Instance, query: Query) -> Acted
-    ensures { λ r. ⌜ r ≡ queried x query ⌝ }
+// A query changes nothing but the latch and, where it is the colour query, DTR0.
+pub fn queried(x: Instance, query: Query, dtr0: u8) -> Acted
+    ensures { λ r. ⌜ r ≡ queried x query dtr0 ⌝ }
 {
     let kind = x.kind;
     let latch = x.latch;
@@ -34,25 +35,39 @@ pub fn queried(x: Instance, query: Query) -> Acted
             let answer = value_of(x, variable);
             Acted {
                 instance: x,
+                dtr0,
                 answer,
             }
         }
         Query::QueryValue => answered(
             x,
             latched(kind.input(), widen::input_bytes(kind.resolution())),
+            dtr0,
         ),
-        Query::QueryNext => answered(x, latched(latch.bytes, latch.left)),
+        Query::QueryNext => answered(x, latched(latch.bytes, latch.left), dtr0),
+        Query::QueryColourSensor => {
+            let answer = only_if(dtr0 < rgb::PARAMETERS, rgb::parameter(dtr0));
+            Acted {
+                instance: x,
+                dtr0: counted_up(dtr0),
+                answer,
+            }
+        }
     }
 }
 
 // With a byte of inputValue answered.
-fn answered(x: Instance, l: Piece) -> Acted
-    ensures { λ r. ⌜ r ≡ answered x l ⌝ }
+fn answered(x: Instance, l: Piece, dtr0: u8) -> Acted
+    ensures { λ r. ⌜ r ≡ answered x l dtr0 ⌝ }
 {
     let latch = l.latch;
     let answer = l.answer;
     let instance = Instance { latch, ..x };
-    Acted { instance, answer }
+    Acted {
+        instance,
+        dtr0,
+        answer,
+    }
 }
 
 // The top of the `left` bytes of a value, and the rest latched; none when used up.
@@ -103,6 +118,13 @@ fn only_if(said: bool, byte: u8) -> Answer
     } else {
         Answer::None
     }
+}
+
+// One more, and 0 after 255.
+fn counted_up(dtr0: u8) -> u8
+    ensures { λ r. ⌜ r ≡ countedUp dtr0 ⌝ }
+{
+    if dtr0 == 255 { 0 } else { dtr0 + 1 }
 }
 
 // Bit 0 error, bit 1 enabled.

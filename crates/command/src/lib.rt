@@ -26,6 +26,7 @@ pub fn acted(x: Instance, opcode: u8, dtr0: u8) -> Acted
             let instance = setting::obeyed(x, command, dtr0);
             Acted {
                 instance,
+                dtr0,
                 answer: Answer::None,
             }
         }
@@ -33,12 +34,14 @@ pub fn acted(x: Instance, opcode: u8, dtr0: u8) -> Acted
             let instance = controlling::controlled(x, control);
             Acted {
                 instance,
+                dtr0,
                 answer: Answer::None,
             }
         }
-        Meaning::Ask(query) => answering::queried(x, query),
+        Meaning::Ask(query) => answering::queried(x, query, dtr0),
         Meaning::Ignored => Acted {
             instance: x,
+            dtr0,
             answer: Answer::None,
         },
     }

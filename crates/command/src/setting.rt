@@ -7,7 +7,7 @@ use sensor::Settings;
 use timers::Report;
 use timers::Rules;
 use timers::Timers;
-ghost use Rattle.command.specs.Setting.{blockChanged, boundedHold, boundedHysteresis, boundedPriority, changed, filtered, obeyed, retimed, retimedDead, retimedReport};
+ghost use Rattle.command.specs.Setting.{blockChanged, boundedFilter, boundedHold, boundedHysteresis, boundedPriority, changed, filtered, obeyed, retimed, retimedDead, retimedReport};
 ghost use Rattle.sensor.specs.Settings.{withDeadtime, withEnabled, withFilter, withMinimum, withReport};
 ghost use mathlib.Core.Path.{_≡_};
 
@@ -25,6 +25,7 @@ pub fn changed(settings: Settings, command: Command, dtr0: u8, kept: u8) -> Sett
         Command::SetHysteresis => bounded_hysteresis(settings, dtr0),
         Command::SetHysteresisMin => with_minimum(settings, dtr0),
         Command::SetHold => bounded_hold(settings, dtr0),
+        Command::SetValidFilter => bounded_filter(settings, dtr0, kept),
     }
 }
 
@@ -32,7 +33,8 @@ pub fn changed(settings: Settings, command: Command, dtr0: u8, kept: u8) -> Sett
 pub fn obeyed(x: Instance, command: Command, dtr0: u8) -> Instance
     ensures { λ r. ⌜ r ≡ obeyed x command dtr0 ⌝ }
 {
-    let next = block_changed(x, command, dtr0);
+    let last = x.kind;
+    let next = block_changed(x, command, dtr0, last.kept());
     let kind = next.kind;
     let settings = next.settings;
     let timers = next.timers;
@@ -47,11 +49,9 @@ pub fn obeyed(x: Instance, command: Command, dtr0: u8) -> Instance
 }
 
 // The instance lends its settings block to the command, and nothing else of it changes.
-fn block_changed(mut x: Instance, command: Command, dtr0: u8) -> Instance
-    ensures { λ r. ⌜ r ≡ blockChanged x command dtr0 ⌝ }
+fn block_changed(mut x: Instance, command: Command, dtr0: u8, kept: u8) -> Instance
+    ensures { λ r. ⌜ r ≡ blockChanged x command dtr0 kept ⌝ }
 {
-    let kind = x.kind;
-    let kept = kind.kept();
     apply(&mut x.settings, command, dtr0, kept);
     x
 }
@@ -63,6 +63,7 @@ fn filtered(kind: Kind, command: Command, filter: u8) -> Kind
     match command {
         Command::Disable => kind.allowing(0),
         Command::SetFilter => kind.allowing(filter),
+        Command::SetValidFilter => kind.allowing(filter),
         _ => kind,
     }
 }
@@ -190,6 +191,19 @@ fn bounded_hold(settings: Settings, d: u8) -> Settings
     }
     Settings {
         hold: d,
+        ..settings
+    }
+}
+
+// Above the bits that are kept: no change.
+fn bounded_filter(settings: Settings, d: u8, kept: u8) -> Settings
+    ensures { λ r. ⌜ r ≡ boundedFilter settings d kept ⌝ }
+{
+    if kept < d {
+        return settings;
+    }
+    Settings {
+        filter: d,
         ..settings
     }
 }

@@ -62,5 +62,9 @@ fn apart(a: u8, b: u8) -> u32
     ensures is { λ r. ⌜ r ≡ apart a b ⌝ }
     ensures small { λ r. ⌜ r < 256 ⌝ }
 {
-    if a < b { (b - a) as u32 } else { (a - b) as u32 }
+    if a < b {
+        (b - a) as u32
+    } else {
+        (a - b) as u32
+    }
 }

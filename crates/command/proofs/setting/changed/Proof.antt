@@ -59,6 +59,12 @@ enum-told-9 c = search needs
 bounded-hold-requires : tie.Need-bounded-hold-requires
 bounded-hold-requires c κs = search needs
 
+enum-told-10 : tie.Need-enum-told-10
+enum-told-10 c = search needs
+
+bounded-filter-requires : tie.Need-bounded-filter-requires
+bounded-filter-requires c κs = search needs
+
 returns : tie.Need-returns
 unfolding changed
 returns c = rw (c .before .enum-told .given .1) (c .bounded-priority .ensures)
@@ -95,6 +101,10 @@ returns-9 : tie.Need-returns-9
 unfolding changed
 returns-9 c = rw (c .before .enum-told9 .given .1) (c .bounded-hold .ensures)
 
+returns-10 : tie.Need-returns-10
+unfolding changed
+returns-10 c = rw (c .before .enum-told10 .given .1) (c .bounded-filter .ensures)
+
 pub changed-spec : {M : Type 1} → statement M
 changed-spec =
     tie.close
@@ -117,6 +127,8 @@ changed-spec =
     with-minimum-requires
     enum-told-9
     bounded-hold-requires
+    enum-told-10
+    bounded-filter-requires
     returns
     returns-2
     returns-3
@@ -125,4 +137,5 @@ changed-spec =
     returns-6
     returns-7
     returns-8
-    returns-9)
+    returns-9
+    returns-10)

@@ -18,6 +18,12 @@ enum-told-2 c = search needs
 allowing-requires-2 : tie.Need-allowing-requires-2
 allowing-requires-2 c κs = search needs
 
+enum-told-3 : tie.Need-enum-told-3
+enum-told-3 c = search needs
+
+allowing-requires-3 : tie.Need-allowing-requires-3
+allowing-requires-3 c κs = search needs
+
 returns : tie.Need-returns
 unfolding filtered
 returns c = rw (c .before .enum-told .given .1) (c .allowing .ensures)
@@ -27,7 +33,11 @@ unfolding filtered
 returns-2 c = rw (c .before .enum-told2 .given .1) (c .allowing2 .ensures)
 
 returns-3 : tie.Need-returns-3
-returns-3 c = same-kind _ (c .before .args .command) _ (c .match .keys3)
+unfolding filtered
+returns-3 c = rw (c .before .enum-told3 .given .1) (c .allowing3 .ensures)
+
+returns-4 : tie.Need-returns-4
+returns-4 c = same-kind _ (c .before .args .command) _ (c .match .keys4)
 
 pub filtered-spec : {M : Type 1} → statement M
 filtered-spec =
@@ -37,6 +47,9 @@ filtered-spec =
     allowing-requires
     enum-told-2
     allowing-requires-2
+    enum-told-3
+    allowing-requires-3
     returns
     returns-2
-    returns-3)
+    returns-3
+    returns-4)
