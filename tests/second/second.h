@@ -1,5 +1,5 @@
 /* The second implementation of the bench model, for comparison with the library: naive, tick by tick, from the words of documents
- * 01 and 02. The state is a plain struct, so that a reading can go on from where an earlier one left it. */
+ * 01 and 02, and of 003 for colour. The state is a plain struct, so that a reading can go on from where an earlier one left it. */
 #ifndef SECOND_H
 #define SECOND_H
 
@@ -40,6 +40,9 @@ typedef struct {
 
     bool band; /* light */
     uint32_t low, high;
+
+    uint32_t last; /* colour: the value at the last event that its change was a cause of; 0, black, where there is none */
+    unsigned colour_band; /* a change above it is a cause */
 
     uint8_t waiting; /* occupancy: the triggers that wait */
 

@@ -1,4 +1,4 @@
-/* Checks the second implementation against the values that document 01 prints and against two sessions worked out by hand, and that
+/* Checks the second implementation against the values that documents 01 and 003 print and against sessions worked out by hand, and that
  * reading in pieces is reading the whole. */
 #include "../lib/comparison.h"
 #include "../lib/generator.h"
@@ -129,6 +129,84 @@ static const uint8_t MOVEMENT_LOG[] = {
     'E', 'V', 0, 0, 1, 192, 0, 5, 0, 0x0C,
 };
 
+/* M-104: the example of 003, 9.4.5, with the defaults, and what its last band lets by. Values and answers are blue, green, red.
+ *   tick 1        70, 110, 120 of red, green and blue: above the first band, 0, and sent. The band is 30
+ *   ticks 2 to 32 80, 106, 125: the change is 19, and nothing is sent behind dead time either
+ *   tick 33       85, 98, 130: the change is 37, and it is sent. The band is 31
+ *   tick 64       116, 98, 130: dead time is over, the change is 31
+ *   tick 65       117, 98, 130: the change is 32, and it is sent */
+static const uint8_t COLOUR_SESSION[] = {
+    'I', 'N', 0, 5, 24,
+    'S', 'A', 0, 0, 120, 110, 70,
+    'T', 'K', 0, 1,
+    'S', 'A', 0, 0, 125, 106, 80,
+    'T', 'K', 0, 31,
+    'S', 'A', 0, 0, 130, 98, 85,
+    'T', 'K', 0, 1,
+    'F', 'R', 0x01, 0, 0x8C,
+    'F', 'R', 0x01, 0, 0x8D,
+    'F', 'R', 0x01, 0, 0x8D,
+    'F', 'R', 0x01, 0, 0x8D,
+    'S', 'A', 0, 0, 130, 98, 116,
+    'T', 'K', 0, 31,
+    'S', 'A', 0, 0, 130, 98, 117,
+    'T', 'K', 0, 1,
+};
+static const uint8_t COLOUR_LOG[] = {
+    'E', 'V', 0, 0, 0, 1, 0, 4, 0, 0xDA,
+    'E', 'V', 0, 0, 0, 33, 0, 4, 0x01, 0x1A,
+    'A', 'N', 0, 0, 0, 33, 0, 130,
+    'A', 'N', 0, 0, 0, 33, 0, 98,
+    'A', 'N', 0, 0, 0, 33, 0, 85,
+    'E', 'V', 0, 0, 0, 65, 0, 4, 0x01, 0x1B,
+};
+
+/* M-104: the defaults, 003, Tables 9 and 10; MASK and reports of 30 x 100 ticks.
+ *   tick 3000  the report is due, and not ready
+ *   tick 3001  black: the change is 0, and the report alone is sent
+ *   tick 6001  the next one
+ *   tick 6002  a failure: MASK */
+static const uint8_t COLOUR_REPORTS_SESSION[] = {
+    'I', 'N', 0, 5, 24,
+    'F', 'R', 0x01, 0, 0x80,
+    'F', 'R', 0x01, 0, 0x81,
+    'F', 'R', 0x01, 0, 0x84,
+    'F', 'R', 0x01, 0, 0x90,
+    'F', 'R', 0x01, 0, 0x4C,
+    'F', 'R', 0x01, 0, 0x4D,
+    'F', 'R', 0x01, 0, 0x4E,
+    'F', 'R', 0x01, 0, 0x4F,
+    'T', 'K', 0x0B, 0xB8,
+    'F', 'R', 0x01, 0, 0x8C,
+    'S', 'A', 0, 0, 0, 0, 0,
+    'T', 'K', 0x0B, 0xB8,
+    'F', 'R', 0x01, 0, 0x8C,
+    'T', 'K', 0, 1,
+    'S', 'A', 0, 2, 0, 0, 0,
+    'T', 'K', 0, 1,
+    'F', 'R', 0x01, 0, 0x8C,
+    'F', 'R', 0x01, 0, 0x8D,
+    'F', 'R', 0x01, 0, 0x8D,
+    'F', 'R', 0x01, 0, 0x8D,
+};
+static const uint8_t COLOUR_REPORTS_LOG[] = {
+    'A', 'N', 0, 0, 0, 0, 0, 5,
+    'A', 'N', 0, 0, 0, 0, 0, 24,
+    'A', 'N', 0, 0, 0, 0, 0, 4,
+    'A', 'N', 0, 0, 0, 0, 0, 1,
+    'A', 'N', 0, 0, 0, 0, 0, 12,
+    'A', 'N', 0, 0, 0, 0, 0, 30,
+    'A', 'N', 0, 0, 0, 0, 0, 30,
+    'A', 'N', 0, 0, 0, 0, 0, 10,
+    'A', 'N', 0, 0, 0x0B, 0xB8, 0, 0xFF,
+    'E', 'V', 0, 0, 0x0B, 0xB9, 0, 5, 0, 0,
+    'A', 'N', 0, 0, 0x17, 0x70, 0, 0,
+    'E', 'V', 0, 0, 0x17, 0x71, 0, 5, 0, 0,
+    'A', 'N', 0, 0, 0x17, 0x72, 0, 0xFF,
+    'A', 'N', 0, 0, 0x17, 0x72, 0, 0xFF,
+    'A', 'N', 0, 0, 0x17, 0x72, 0, 0xFF,
+};
+
 static bool session_gives(const uint8_t *session, size_t session_len, const uint8_t *expected, size_t expected_len)
 {
     uint8_t log[256];
@@ -176,6 +254,48 @@ static bool marked_table_agrees(void)
            marked_value_agrees(8, 100, (const uint8_t[]){0x64, 0x01, 0x91}, 1);
 }
 
+static bool colour_agrees(void)
+{
+    return session_gives(COLOUR_SESSION, sizeof COLOUR_SESSION, COLOUR_LOG, sizeof COLOUR_LOG) &&
+           session_gives(COLOUR_REPORTS_SESSION, sizeof COLOUR_REPORTS_SESSION, COLOUR_REPORTS_LOG, sizeof COLOUR_REPORTS_LOG);
+}
+
+/* 003, Table A.1, but that halves are rounded down (02, M-104): its 188, 138 and 88 are of 187.5, 137.5 and 87.5. The frame behind the last
+ * row has no answer, and DTR0 is 16 then, as hysteresisMin shows. */
+static bool sensor_table_agrees(void)
+{
+    static const uint8_t answers[] = {187, 175, 162, 137, 125, 100, 112, 87, 75, 1, 84, 1, 104, 0, 200, 16};
+    uint8_t session[5 + 5 * 16 + 10] = {'I', 'N', 0, 5, 24}, expected[8 * sizeof answers];
+    for (unsigned i = 0; i < 18; i++) memcpy(session + 5 + 5 * i, (const uint8_t[]){'F', 'R', 0x01, 0, 0x4B}, 5);
+    session[5 + 5 * 16 + 4] = 0x43;
+    session[5 + 5 * 17 + 4] = 0x4C;
+    for (unsigned i = 0; i < sizeof answers; i++)
+        memcpy(expected + 8 * i, (const uint8_t[]){'A', 'N', 0, 0, 0, 0, 0, answers[i]}, 8);
+    return session_gives(session, sizeof session, expected, sizeof expected);
+}
+
+/* 003, Tables 1 and 3: red, green and blue as inputValue and the information have them. */
+static bool colour_value_agrees(uint8_t red, uint8_t green, uint8_t blue, uint32_t information)
+{
+    uint8_t session[] = {
+        'I', 'N', 0, 5, 24, 'S', 'A', 0, 0, blue, green, red, 'T', 'K', 0, 1,
+        'F', 'R', 1, 0, 0x8C, 'F', 'R', 1, 0, 0x8D, 'F', 'R', 1, 0, 0x8D,
+    };
+    uint8_t expected[] = {
+        'E', 'V', 0, 0, 0, 1, 0, 4, (uint8_t)(information >> 8), (uint8_t)information,
+        'A', 'N', 0, 0, 0, 1, 0, blue, 'A', 'N', 0, 0, 0, 1, 0, green, 'A', 'N', 0, 0, 0, 1, 0, red,
+    };
+    return session_gives(session, sizeof session, expected, sizeof expected);
+}
+
+static bool colour_values_agree(void)
+{
+    return colour_value_agrees(254, 254, 254, 0x1FF) && colour_value_agrees(31, 31, 31, 0) &&
+           colour_value_agrees(254, 0, 0, 0x007) && colour_value_agrees(0, 254, 0, 0x038) && colour_value_agrees(0, 0, 254, 0x1C0) &&
+           colour_value_agrees(32, 0, 0, 0x001) && colour_value_agrees(0, 64, 0, 0x010) && colour_value_agrees(0, 0, 128, 0x100) &&
+           colour_value_agrees(0x3F, 0x5F, 0x9F, 0x111);
+}
+
 static second_reading read_whole(const test_case *c, uint8_t *log, size_t log_len)
 {
     return second_case(c, second_read, log, log_len);
@@ -210,6 +330,8 @@ int main(void)
     good = report("document 01, marked widths and informations", marked_table_agrees()) && good;
     good = report("IN and LO side by side, worked out by hand", two_rules_agree()) && good;
     good = report("IM, worked out by hand", movement_agrees()) && good;
+    good = report("colour: document 003's example, and reports", colour_agrees()) && good;
+    good = report("colour: document 003's tables", sensor_table_agrees() && colour_values_agree()) && good;
     good = report("1000 sessions in pieces", pieces_agree(1000)) && good;
     return good ? 0 : 1;
 }
