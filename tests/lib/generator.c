@@ -3,7 +3,7 @@
 #include <stdbool.h>
 #include <string.h>
 
-enum { OCCUPANCY = 3, LIGHT = 4 };
+enum { OCCUPANCY = 3, LIGHT = 4, COLOUR = 5 };
 enum { INSTANCES = 16, SESSION_MAX = 1 << 16 };
 
 /* The marks that declare. */
@@ -11,10 +11,13 @@ typedef enum { IN, LO, IM, MARKS } mark;
 
 /* The turns of profile f: the first ones each declare another sensor, most of which are not modelled, the last ones an instance too
  * many. */
-enum { DAMAGED_TURNS = 72, SENSORS = 8, UNMODELLED_TURNS = SENSORS * MARKS, FULL_TURNS = 6 };
+enum { DAMAGED_TURNS = 90, SENSORS = 13, UNMODELLED_TURNS = SENSORS * MARKS, FULL_TURNS = 6 };
 
 /* The values of movement-based occupancy. */
 enum { EMPTY = 0, STILL = 2, MOVING = 3 };
+
+/* The bytes of a colour value, from the lowest: red, green and blue. */
+enum { CHANNELS = 3, CHANNEL_MOST = 254, BLACK = 0, WHITE = 0xFEFEFE };
 
 /* What the generator remembers of an instance, to choose values and tick counts that tell something. It may be wrong: a setting
  * that is refused is remembered all the same. */
@@ -23,11 +26,17 @@ typedef struct {
     mark by; /* declared by LO, its band is on the input value; by IM, it is movement-based */
     uint8_t hysteresis, hysteresis_min, deadtime, report;
     uint32_t base; /* a value that the band may begin from */
-    bool had_valid; /* light: status 1 is refused from now on */
+    bool had_valid; /* light and colour: status 1 is refused from now on */
+    bool failed;    /* the sample that it holds is not valid */
     /* movement-based */
-    bool failed, moving; /* the sample that it holds */
+    bool moving; /* the sample that it holds */
     uint8_t hold, value;
     uint32_t expires; /* the tick at which the hold that runs expires */
+    /* colour */
+    bool disabled, filtered; /* by its filter */
+    uint32_t shown;          /* the sample that it holds */
+    uint32_t last, band;     /* as the last event by a change left them */
+    uint32_t free_from;      /* the first tick behind dead time */
 } sketch;
 
 typedef struct {
@@ -78,6 +87,21 @@ static uint32_t light_most(const sketch *s)
     return (1u << s->resolution) - 2;
 }
 
+static unsigned channel(uint32_t colour, unsigned which)
+{
+    return colour >> (8 * which) & 0xFF;
+}
+
+static bool has_channel_255(uint32_t colour)
+{
+    return channel(colour, 0) == 255 || channel(colour, 1) == 255 || channel(colour, 2) == 255;
+}
+
+static bool value_allowed(const sketch *s, uint32_t value)
+{
+    return value <= light_most(s) && !(s->type == COLOUR && has_channel_255(value));
+}
+
 static void put(generator *g, const uint8_t *bytes, size_t count)
 {
     if (g->len + count > SESSION_MAX) return;
@@ -95,10 +119,12 @@ static void put_declaration(generator *g, mark by, unsigned number, unsigned typ
 
 static void hold_sample(sketch *s, unsigned status, uint32_t value)
 {
-    if (status == 0 && value <= light_most(s)) s->had_valid = true;
+    if (s->type == COLOUR && (status == 0 ? has_channel_255(value) : status > 2 || value > 0 || (status == 1 && s->had_valid))) return;
+    if (status == 0 && value_allowed(s, value)) s->had_valid = true;
     if (s->by == IM && (status == 1 || value > 1)) return;
-    s->failed = status == 2;
+    s->failed = status != 0;
     s->moving = status == 0 && (value & 1);
+    s->shown = value;
 }
 
 static void put_sa(generator *g, unsigned number, unsigned status, uint32_t value)
@@ -117,10 +143,37 @@ static uint32_t hold_time(const sketch *s)
     return s->hold == 0 ? 20 : 200u * s->hold;
 }
 
-/* What ticks from this one on, up to another, make of the sample that a movement-based instance holds. */
-static void pass_ticks(sketch *s, uint32_t from, uint32_t to)
+static unsigned channel_sum(uint32_t colour)
 {
-    if (s->by != IM || s->failed) return;
+    return channel(colour, 0) + channel(colour, 1) + channel(colour, 2);
+}
+
+static unsigned channel_changes(uint32_t from, uint32_t to)
+{
+    unsigned sum = 0;
+    for (unsigned i = 0; i < CHANNELS; i++) {
+        unsigned a = channel(from, i), b = channel(to, i);
+        sum += a > b ? a - b : b - a;
+    }
+    return sum;
+}
+
+/* What ticks from this one on, up to another, make of the colour that an instance holds. Reports, and their dead time, are left out. */
+static void pass_colour_ticks(sketch *s, uint32_t from, uint32_t to)
+{
+    uint32_t at = s->free_from > from ? s->free_from : from;
+    if (s->failed || s->disabled || s->filtered || s->hysteresis == 0 || at > to) return;
+    if (channel_changes(s->last, s->shown) <= s->band) return;
+    uint32_t share = channel_sum(s->shown) * s->hysteresis / 100;
+    s->last = s->shown;
+    s->band = share > s->hysteresis_min ? share : s->hysteresis_min;
+    s->free_from = at + s->deadtime;
+}
+
+/* What they make of the sample that a movement-based instance holds. */
+static void pass_movement_ticks(sketch *s, uint32_t from, uint32_t to)
+{
+    if (s->failed) return;
     if (s->moving) {
         s->value = MOVING;
         return;
@@ -130,6 +183,12 @@ static void pass_ticks(sketch *s, uint32_t from, uint32_t to)
         s->expires = from + hold_time(s);
     }
     if (s->value == STILL && s->expires <= to) s->value = EMPTY;
+}
+
+static void pass_ticks(sketch *s, uint32_t from, uint32_t to)
+{
+    if (s->type == COLOUR) pass_colour_ticks(s, from, to);
+    if (s->by == IM) pass_movement_ticks(s, from, to);
 }
 
 /* A TK of as many ticks as the session may still cost. */
@@ -148,24 +207,28 @@ static void put_tk(generator *g, unsigned count)
 static void put_command(generator *g, unsigned number, unsigned opcode)
 {
     put_fr(g, chance(g, 75) ? 0x01 : 0xFF, number, opcode);
+    if (number >= g->declared || g->instance[number].type != COLOUR) return;
+    if (opcode == 0x4B) g->dtr0++;
+    if (opcode == 0x62 || opcode == 0x63) g->instance[number].disabled = opcode == 0x63;
 }
 
 /* ---- Instances ---- */
 
 static void declare(generator *g, mark by, unsigned type, unsigned resolution)
 {
-    bool light = type == LIGHT;
+    bool occupancy = type == OCCUPANCY, colour = type == COLOUR;
     uint32_t hundredth = (1u << resolution) / 100;
     uint8_t least = (uint8_t)(hundredth > 255 ? 255 : hundredth);
     g->instance[g->declared] = (sketch){
         .type = (uint8_t)type,
         .resolution = (uint8_t)resolution,
         .by = by,
-        .hysteresis = 5,
-        .hysteresis_min = least,
-        .deadtime = light ? 30 : 2,
-        .report = light ? 30 : 20,
+        .hysteresis = colour ? 10 : 5,
+        .hysteresis_min = colour ? 12 : least,
+        .deadtime = occupancy ? 2 : 30,
+        .report = occupancy ? 20 : 30,
         .hold = 90,
+        .failed = colour,
     };
     put_declaration(g, by, g->declared, type, resolution);
     g->declared++;
@@ -194,10 +257,16 @@ static void declare_light(generator *g, unsigned resolution)
     declare(g, chance(g, 40) ? LO : IN, LIGHT, resolution);
 }
 
+static void declare_colour(generator *g)
+{
+    declare(g, IN, COLOUR, 24);
+}
+
 static void declare_any(generator *g, unsigned count)
 {
     for (unsigned i = 0; i < count; i++) {
-        if (chance(g, 45)) declare_occupancy(g);
+        if (chance(g, 8)) declare_colour(g);
+        else if (chance(g, 45)) declare_occupancy(g);
         else declare_light(g, 1 + below(g, 24));
     }
 }
@@ -254,17 +323,73 @@ static uint32_t light_value(generator *g, sketch *s)
     return (uint32_t)value;
 }
 
+/* A colour whose channels are each below a limit. */
+static uint32_t dark_colour(generator *g, unsigned limit)
+{
+    return below(g, limit) << 16 | below(g, limit) << 8 | below(g, limit);
+}
+
+static uint32_t any_colour(generator *g)
+{
+    return dark_colour(g, CHANNEL_MOST + 1);
+}
+
+/* A channel one step up or down, unless it is at its end. */
+static uint32_t step_channel(uint32_t colour, unsigned which, bool up)
+{
+    if (channel(colour, which) == (up ? CHANNEL_MOST : 0)) return colour;
+    return up ? colour + (1u << 8 * which) : colour - (1u << 8 * which);
+}
+
+/* A colour that differs by so much from another, or by as much as there is: in one channel as far as it goes, or spread over the three,
+ * each of which goes one way. */
+static uint32_t changed_colour(generator *g, uint32_t from, unsigned change)
+{
+    uint32_t to = from;
+    unsigned first = below(g, CHANNELS), ways = below(g, 8);
+    bool spread = chance(g, 50);
+    if (channel(from, first) + change > CHANNEL_MOST && chance(g, 70)) ways &= ~(1u << first);
+    for (unsigned tries = 0; tries < 3000 && channel_changes(from, to) < change; tries++) {
+        unsigned which = spread ? below(g, CHANNELS) : (first + tries / 800) % CHANNELS;
+        to = step_channel(to, which, ways >> which & 1);
+    }
+    return to;
+}
+
+/* At the edge of the band, or just outside of it. */
+static uint32_t edge_colour(generator *g, const sketch *s)
+{
+    return changed_colour(g, s->last, s->band + ONE_OF(g, 0, 0, 1, 1, 2));
+}
+
+static uint32_t colour_value(generator *g, const sketch *s)
+{
+    switch (below(g, 8)) {
+    case 0: return ONE_OF(g, BLACK, WHITE);
+    case 1: return any_colour(g);
+    case 2: return dark_colour(g, 12);
+    case 3: return s->last;
+    default: return edge_colour(g, s);
+    }
+}
+
+static uint32_t valid_value(generator *g, sketch *s)
+{
+    if (s->type == LIGHT) return light_value(g, s);
+    if (s->type == COLOUR) return colour_value(g, s);
+    return below(g, s->by == IM ? 2 : 4);
+}
+
 static void put_valid(generator *g, unsigned number)
 {
-    sketch *s = &g->instance[number];
-    put_sa(g, number, 0, s->type == LIGHT ? light_value(g, s) : below(g, s->by == IM ? 2 : 4));
+    put_sa(g, number, 0, valid_value(g, &g->instance[number]));
 }
 
 static void sample(generator *g, unsigned number)
 {
     const sketch *s = &g->instance[number];
     if (chance(g, 8)) put_sa(g, number, 2, 0);
-    else if (s->type == LIGHT && !s->had_valid && chance(g, 15)) put_sa(g, number, 1, 0);
+    else if (s->type != OCCUPANCY && !s->had_valid && chance(g, 15)) put_sa(g, number, 1, 0);
     else put_valid(g, number);
 }
 
@@ -274,9 +399,11 @@ static uint8_t telling_dtr0(generator *g, unsigned opcode)
 {
     switch (opcode) {
     case 0x21: return (uint8_t)ONE_OF(g, 0, 0, 0, 0, 1, 1, 2, 254, 255, 255);
-    case 0x22: case 0x30: return (uint8_t)ONE_OF(g, 0, 0, 1, 1, 1, 2, 3, 255);
-    case 0x23: case 0x32: return (uint8_t)ONE_OF(g, 0, 0, 1, 2, 3, 19, 20, 21, 45, 255);
-    case 0x31: return (uint8_t)ONE_OF(g, 0, 1, 5, 10, 24, 25, 26, 255);
+    case 0x22: case 0x30: case 0x40: return (uint8_t)ONE_OF(g, 0, 0, 1, 1, 1, 2, 3, 255);
+    case 0x23: case 0x32: case 0x42: return (uint8_t)ONE_OF(g, 0, 0, 1, 2, 3, 19, 20, 21, 45, 255);
+    case 0x31: case 0x41: return (uint8_t)ONE_OF(g, 0, 1, 5, 10, 24, 25, 26, 255);
+    case 0x43: return (uint8_t)ONE_OF(g, 0, 0, 1, 12, 12, 100, 200, 255);
+    case 0x4B: return (uint8_t)ONE_OF(g, 0, below(g, 15), below(g, 15), 14, 15, 16, 254, 255);
     case 0x33: return (uint8_t)ONE_OF(g, 0, 1, 2, 5, 10, 100, 254, 255);
     case 0x61: return (uint8_t)ONE_OF(g, 0, 1, 2, 3, 4, 5, 6, 255);
     case 0x68: return (uint8_t)(below(g, chance(g, 70) ? 32 : 256) | below(g, 2));
@@ -284,9 +411,27 @@ static uint8_t telling_dtr0(generator *g, unsigned opcode)
     return (uint8_t)below(g, 256);
 }
 
+static void remember_colour(generator *g, sketch *s, unsigned opcode, uint8_t dtr0)
+{
+    switch (opcode) {
+    case 0x40: s->report = dtr0; break;
+    case 0x41: if (dtr0 <= 25) s->hysteresis = dtr0; break;
+    case 0x42:
+        s->deadtime = dtr0;
+        if (dtr0 == 0) s->free_from = g->tick;
+        break;
+    case 0x43: s->hysteresis_min = dtr0; break;
+    case 0x68: if (dtr0 <= 1) s->filtered = dtr0 == 0; break;
+    }
+}
+
 static void remember(generator *g, unsigned number, unsigned opcode, uint8_t dtr0)
 {
     sketch *s = &g->instance[number];
+    if (s->type == COLOUR) {
+        remember_colour(g, s, opcode, dtr0);
+        return;
+    }
     switch (opcode) {
     case 0x21: if (dtr0 < 255) s->hold = dtr0; break;
     case 0x22: case 0x30: s->report = dtr0; break;
@@ -310,9 +455,17 @@ static void set_to(generator *g, unsigned number, unsigned opcode, uint8_t dtr0)
     remember(g, number, opcode, dtr0);
 }
 
-/* The opcodes by which an instance's type sets its times. */
-static unsigned report_opcode(const sketch *s) { return s->type == LIGHT ? 0x30 : 0x22; }
-static unsigned deadtime_opcode(const sketch *s) { return s->type == LIGHT ? 0x32 : 0x23; }
+/* The opcodes by which an instance's type sets its times, and light or colour its hysteresis. */
+static unsigned report_opcode(const sketch *s) { return s->type == LIGHT ? 0x30 : s->type == COLOUR ? 0x40 : 0x22; }
+static unsigned deadtime_opcode(const sketch *s) { return s->type == LIGHT ? 0x32 : s->type == COLOUR ? 0x42 : 0x23; }
+static unsigned hysteresis_opcode(const sketch *s) { return s->type == COLOUR ? 0x41 : 0x31; }
+static unsigned min_opcode(const sketch *s) { return s->type == COLOUR ? 0x43 : 0x33; }
+static unsigned min_query(const sketch *s) { return s->type == COLOUR ? 0x4C : 0x3C; }
+
+static unsigned report_unit(const sketch *s)
+{
+    return s->type == COLOUR ? 100 : 20;
+}
 
 static void set_times(generator *g, unsigned number, uint8_t deadtime, uint8_t report)
 {
@@ -320,18 +473,20 @@ static void set_times(generator *g, unsigned number, uint8_t deadtime, uint8_t r
     set_to(g, number, report_opcode(&g->instance[number]), report);
 }
 
-/* A setting command of light, of presence, or of movement-based occupancy and its other commands. */
+/* A setting command of light, of colour and its query that counts DTR0 up, of presence, or of movement-based occupancy and its other
+ * commands. */
 static unsigned any_setting(generator *g, const sketch *s)
 {
     if (s->type == LIGHT) return ONE_OF(g, 0x30, 0x31, 0x32, 0x33, 0x61, 0x68);
+    if (s->type == COLOUR) return ONE_OF(g, 0x40, 0x41, 0x42, 0x43, 0x4B, 0x61, 0x68);
     return s->by == IM ? ONE_OF(g, 0x20, 0x20, 0x21, 0x21, 0x22, 0x23, 0x24, 0x61, 0x68) : ONE_OF(g, 0x22, 0x23, 0x61, 0x68);
 }
 
 /* A setting command, most often one that the instance has, after a new DTR0 or with what DTR0 holds. */
 static void set_something(generator *g, unsigned number)
 {
-    static const sketch others[] = {{.type = OCCUPANCY}, {.type = OCCUPANCY, .by = IM}, {.type = LIGHT}};
-    unsigned opcode = any_setting(g, chance(g, 90) ? &g->instance[number] : &others[below(g, 3)]);
+    static const sketch others[] = {{.type = OCCUPANCY}, {.type = OCCUPANCY, .by = IM}, {.type = LIGHT}, {.type = COLOUR}};
+    unsigned opcode = any_setting(g, chance(g, 90) ? &g->instance[number] : &others[below(g, 4)]);
     if (chance(g, 85)) load_dtr0(g, telling_dtr0(g, opcode));
     put_command(g, number, opcode);
     remember(g, number, opcode, g->dtr0);
@@ -339,7 +494,8 @@ static void set_something(generator *g, unsigned number)
 
 static unsigned any_query(generator *g)
 {
-    return ONE_OF(g, 0x80, 0x81, 0x82, 0x83, 0x84, 0x86, 0x8C, 0x8D, 0x90, 0x2C, 0x2D, 0x2E, 0x2F, 0x3C, 0x3D, 0x3E, 0x3F);
+    return ONE_OF(g, 0x80, 0x81, 0x82, 0x83, 0x84, 0x86, 0x8C, 0x8D, 0x90, 0x2C, 0x2D, 0x2E, 0x2F, 0x3C, 0x3D, 0x3E, 0x3F, 0x4B, 0x4C,
+                  0x4D, 0x4E, 0x4F);
 }
 
 /* The whole input value, or more of it than there is. */
@@ -405,7 +561,7 @@ static void step_latches(generator *g)
 static void step_ticks(generator *g)
 {
     const sketch *s = &g->instance[any_instance(g)];
-    unsigned report = 20u * s->report, end = chance(g, 50) ? s->deadtime : report > s->deadtime ? report : s->deadtime;
+    unsigned report = report_unit(s) * s->report, end = chance(g, 50) ? s->deadtime : report > s->deadtime ? report : s->deadtime;
     put_tk(g, chance(g, 30) ? 1 + below(g, 8) : end + below(g, 3) - (end > 0));
 }
 
@@ -418,12 +574,12 @@ static void step_hold(generator *g)
     if (how == 0) put_command(g, number, 0x63);
     if (how == 1) set_to(g, number, 0x68, (uint8_t)ONE_OF(g, 0, 0, 3, 8));
     if (how == 2) put_sa(g, number, 2, 0);
-    put_tk(g, (s->report > 0 && s->report < 4 ? 20u * s->report : 20u) + below(g, 40));
+    put_tk(g, (s->report > 0 && s->report < 4 ? s->report : 1) * report_unit(s) + below(g, 40));
     if (how != 2 && chance(g, 60)) sample(g, number);
     if (chance(g, 25)) put_tk(g, 1);
     if (chance(g, 20)) set_to(g, number, report_opcode(s), (uint8_t)ONE_OF(g, 0, 1, 2));
     if (how == 0) put_command(g, number, 0x62);
-    if (how == 1) set_to(g, number, 0x68, (uint8_t)ONE_OF(g, 1, 5, 7, 0x1F));
+    if (how == 1) set_to(g, number, 0x68, s->type == COLOUR ? 1 : (uint8_t)ONE_OF(g, 1, 5, 7, 0x1F));
     if (how == 2) sample(g, number);
     put_tk(g, 1 + below(g, 3));
 }
@@ -468,18 +624,21 @@ static void bad_declaration(generator *g)
 {
     mark by = any_mark(g);
     unsigned number = chance(g, 70) ? g->declared : below(g, 18);
-    switch (below(g, 3)) {
+    switch (below(g, 4)) {
     case 0: put_declaration(g, by, number, OCCUPANCY, ONE_OF(g, 0, 1, 2, 3, 24)); break;
     case 1: put_declaration(g, by, number, LIGHT, ONE_OF(g, 0, 1, 2, 24, 25, 255)); break;
-    default: put_declaration(g, by, number, ONE_OF(g, 0, 1, 2, 5, 255), ONE_OF(g, 2, 8)); break;
+    case 2: put_declaration(g, by, number, COLOUR, ONE_OF(g, 0, 1, 2, 8, 23, 24, 25, 255)); break;
+    default: put_declaration(g, by, number, ONE_OF(g, 0, 1, 2, 6, 255), ONE_OF(g, 2, 8, 24)); break;
     }
 }
 
 /* A type and a resolution by each mark, with the next number. Type 3 with resolution 2 is modelled but for LO, type 4 with
- * resolution 2 but for IM; the others are not. */
+ * resolution 2 but for IM, type 5 with resolution 24 by IN alone; the others are not. */
 static void unmodelled(generator *g, unsigned turn)
 {
-    static const uint8_t sensors[SENSORS][2] = {{2, 2}, {3, 1}, {3, 2}, {3, 8}, {4, 0}, {4, 2}, {4, 25}, {5, 24}};
+    static const uint8_t sensors[SENSORS][2] = {
+        {2, 2}, {3, 1}, {3, 2}, {3, 8}, {4, 0}, {4, 2}, {4, 25}, {5, 2}, {5, 8}, {5, 23}, {5, 24}, {5, 25}, {6, 24},
+    };
     const uint8_t *sensor = sensors[turn / MARKS];
     put_declaration(g, (mark)(turn % MARKS), g->declared, sensor[0], sensor[1]);
 }
@@ -496,10 +655,23 @@ static void late_declaration(generator *g)
     if (chance(g, 60)) cut(g, start);
 }
 
-/* The largest value that a valid sample may have. */
+/* The largest value that a valid sample of light or of occupancy may have. */
 static uint32_t valid_most(const sketch *s)
 {
     return s->type == LIGHT ? light_most(s) : s->by == IM ? 1 : 3;
+}
+
+/* A channel of 255 in one of the three places, or in all. */
+static uint32_t bad_colour(generator *g)
+{
+    return chance(g, 20) ? 0xFFFFFF : any_colour(g) | 0xFFu << 8 * below(g, CHANNELS);
+}
+
+/* A value that a valid sample may not have, or the largest that it may. */
+static uint32_t extreme_value(generator *g, const sketch *s)
+{
+    if (s->type == COLOUR) return chance(g, 20) ? WHITE : bad_colour(g);
+    return valid_most(s) + ONE_OF(g, 0, 1, 1, 2);
 }
 
 /* A sample with one thing wrong, or for an instance that may not be there. */
@@ -512,7 +684,7 @@ static void bad_sa(generator *g)
     case 2: put_sa(g, number, ONE_OF(g, 3, 4, 255), 0); break;
     case 3: put_sa(g, number, 1, 0); break;
     case 4: case 5: put_sa(g, number, ONE_OF(g, 1, 2, 2), ONE_OF(g, 1, 0x100, 0x10000, 0xFFFFFF)); break;
-    default: put_sa(g, number, 0, valid_most(s) + ONE_OF(g, 0, 1, 1, 2)); break;
+    default: put_sa(g, number, 0, extreme_value(g, s)); break;
     }
 }
 
@@ -550,11 +722,11 @@ static void mix(generator *g, unsigned count, const step *steps, size_t choices)
 
 #define MIX(g, count, ...) mix((g), (count), (const step[]){__VA_ARGS__}, sizeof((const step[]){__VA_ARGS__}) / sizeof(step))
 
-/* Some of the light instances not ready yet, sometimes after a failure, and what shows of it. */
+/* Some of light and colour not ready yet, sometimes after a failure, and what shows of it. */
 static void begin_unready(generator *g)
 {
     for (unsigned i = 0; i < g->declared; i++) {
-        if (g->instance[i].type != LIGHT || chance(g, 70)) continue;
+        if (g->instance[i].type == OCCUPANCY || chance(g, 70)) continue;
         if (chance(g, 30)) put_sa(g, i, 2, 0), put_tk(g, 1);
         put_sa(g, i, 1, 0);
         put_tk(g, 1 + below(g, 3));
@@ -685,41 +857,52 @@ static void far_ticks(generator *g, test_case *c)
     mixed_traffic(g);
 }
 
-/* ---- A pair: an instance of each type ---- */
+/* ---- A pair: an instance of occupancy, and one of light or, in its place, of colour ---- */
 
-/* The two, and the deadtime that both are set to. */
+/* The two, of which kinds they are, and the deadtime that both are set to. */
 typedef struct {
-    unsigned light, occupancy, deadtime;
+    unsigned light, occupancy;
+    bool colour, movement;
+    unsigned deadtime;
 } pair;
 
-static void declare_pair(generator *g, pair p, bool movement)
+static void declare_pair(generator *g, pair p)
 {
     for (unsigned i = 0; i < 2; i++) {
-        if (i == p.light) declare_light(g, 10 + below(g, 15));
-        else if (movement) declare_movement(g);
+        if (i == p.light && p.colour) declare_colour(g);
+        else if (i == p.light) declare_light(g, 10 + below(g, 15));
+        else if (p.movement) declare_movement(g);
         else declare_presence(g);
     }
 }
 
-/* Settings that are not the DTR0 of profile j nor, but for light's filter, the defaults; a report every 20 ticks. */
+/* Settings that are not the DTR0 of profile j nor, but for the filter of light and colour, the defaults; a report every 20 ticks, of colour
+ * every 100. */
 static void settle(generator *g, unsigned number, unsigned deadtime)
 {
-    bool light = g->instance[number].type == LIGHT, movement = g->instance[number].by == IM;
+    const sketch *s = &g->instance[number];
     put_command(g, number, 0x62);
     set_to(g, number, 0x61, 3);
-    uint32_t filter = movement ? ONE_OF(g, 0x17, 0x1F, 0x1F) : ONE_OF(g, 0x07, 0x0F, 0x17, 0x1F);
-    set_to(g, number, 0x68, light ? 1 : (uint8_t)filter);
+    uint32_t filter = s->by == IM ? ONE_OF(g, 0x17, 0x1F, 0x1F) : ONE_OF(g, 0x07, 0x0F, 0x17, 0x1F);
+    set_to(g, number, 0x68, s->type == OCCUPANCY ? (uint8_t)filter : 1);
     set_times(g, number, (uint8_t)deadtime, 1);
-    if (light) set_to(g, number, 0x31, (uint8_t)ONE_OF(g, 1, 10, 25));
+    if (s->type != OCCUPANCY) set_to(g, number, hysteresis_opcode(s), (uint8_t)ONE_OF(g, 1, 10, 25));
 }
 
-/* Samples that are a change for certain: light from one end of its range to the other, presence between occupied and vacant,
+/* A value at the other end of the range. */
+static uint32_t far_value(generator *g, const sketch *s)
+{
+    if (s->type == COLOUR) return s->base > WHITE / 2 ? dark_colour(g, 64) : WHITE - dark_colour(g, 64);
+    uint32_t quarter = light_most(s) / 4;
+    return s->base > 2 * quarter ? below(g, quarter) : light_most(s) - below(g, quarter);
+}
+
+/* Samples that are a change for certain: light or colour from one end of its range to the other, presence between occupied and vacant,
  * movement that comes or goes. */
 static void swing(generator *g, pair p)
 {
     sketch *light = &g->instance[p.light], *occupancy = &g->instance[p.occupancy];
-    uint32_t quarter = light_most(light) / 4;
-    light->base = light->base > 2 * quarter ? below(g, quarter) : light_most(light) - below(g, quarter);
+    light->base = far_value(g, light);
     occupancy->base = occupancy->by == IM ? !occupancy->moving : (~occupancy->base & 2) | below(g, 2);
     put_sa(g, p.light, 0, light->base);
     put_sa(g, p.occupancy, 0, occupancy->base);
@@ -744,16 +927,18 @@ static void put_third_byte(generator *g, pair p, unsigned byte)
 
 static void query_settings(generator *g, pair p)
 {
-    static const uint8_t both[] = {0x83, 0x84, 0x90}, light[] = {0x3C, 0x3D, 0x3E, 0x3F}, occupancy[] = {0x2C, 0x2D, 0x2E, 0x2F};
+    static const uint8_t both[] = {0x83, 0x84, 0x90};
+    unsigned light = p.colour ? 0x4C : 0x3C;
     for (unsigned i = 0; i < sizeof both; i++) put_to_both(g, p, both[i]);
-    for (unsigned i = 0; i < sizeof light; i++) put_command(g, p.light, light[i]);
-    for (unsigned i = 0; i < sizeof occupancy; i++) put_command(g, p.occupancy, occupancy[i]);
+    for (unsigned i = 0; i < 4; i++) put_command(g, p.light, light + i);
+    for (unsigned i = 0; i < 4; i++) put_command(g, p.occupancy, 0x2C + i);
 }
 
 /* One third byte to both, three times: while dead time runs, a change waits and a value is latched; two ticks before the reports
- * are due, with the latch used up; and disabled in a failure. Opcodes 33 and 3C show what DTR0 holds. */
+ * are due, with the latch used up; and disabled in a failure. hysteresisMin shows what DTR0 holds. */
 static void turn(generator *g, pair p, unsigned byte)
 {
+    const sketch *light = &g->instance[p.light];
     settle(g, p.light, p.deadtime);
     settle(g, p.occupancy, p.deadtime);
     swing(g, p);
@@ -764,7 +949,7 @@ static void turn(generator *g, pair p, unsigned byte)
     put_third_byte(g, p, byte);
     query_settings(g, p);
     for (unsigned i = 0; i < 2; i++) put_to_both(g, p, 0x8D);
-    put_tk(g, p.deadtime - 1 + 18);
+    put_tk(g, p.deadtime - 1 + report_unit(light) - 2);
     put_third_byte(g, p, byte);
     put_to_both(g, p, 0x8D);
     put_to_both(g, p, 0x8C);
@@ -775,18 +960,20 @@ static void turn(generator *g, pair p, unsigned byte)
     put_tk(g, 1);
     put_third_byte(g, p, byte);
     put_to_both(g, p, 0x86);
-    put_command(g, p.light, 0x33);
-    put_command(g, p.light, 0x3C);
+    put_command(g, p.light, min_opcode(light));
+    put_command(g, p.light, min_query(light));
     put_tk(g, p.deadtime - 1);
 }
 
-/* Sixteen third bytes in a row: in sixteen turns all, to light and presence, and in sixteen more to light and movement-based
- * occupancy. Where a swing and its dead time come first, the later ones go the other way. */
+/* Sixteen third bytes in a row: in sixteen turns all, to light and presence, in sixteen more to light and movement-based occupancy, and
+ * in the last sixteen to colour and presence. Where a swing and its dead time come first, the later ones go the other way. */
 static void third_bytes(generator *g, unsigned turns)
 {
-    unsigned light = below(g, 2);
-    pair p = {.light = light, .occupancy = 1 - light, .deadtime = ONE_OF(g, 3, 4, 6)};
-    declare_pair(g, p, turns >= 16);
+    unsigned light = below(g, 2), kinds = turns / 16;
+    pair p = {
+        .light = light, .occupancy = 1 - light, .colour = kinds == 2, .movement = kinds == 1, .deadtime = ONE_OF(g, 3, 4, 6),
+    };
+    declare_pair(g, p);
     if (chance(g, 50)) swing(g, p), put_tk(g, 31);
     for (unsigned i = 0; i < 16; i++) turn(g, p, turns % 16 * 16 + i);
 }
@@ -847,8 +1034,8 @@ static void set_in_dead_time(generator *g, pair p)
 static void deadtimes_set(generator *g)
 {
     unsigned light = below(g, 2);
-    pair p = {.light = light, .occupancy = 1 - light};
-    declare_pair(g, p, chance(g, 40));
+    pair p = {.light = light, .occupancy = 1 - light, .colour = chance(g, 25), .movement = chance(g, 40)};
+    declare_pair(g, p);
     for (unsigned i = 0; i < 8; i++) {
         p.deadtime = ONE_OF(g, 3, 10, 25, 45, 90);
         send_both(g, p);
@@ -856,18 +1043,19 @@ static void deadtimes_set(generator *g)
         set_in_dead_time(g, p);
         put_tk(g, 1);
         if (chance(g, 50)) swing(g, p);
-        put_tk(g, 90 + below(g, 10));
+        put_tk(g, 70 + report_unit(&g->instance[light]) + below(g, 10));
     }
 }
 
 /* ---- Profile l: not ready, before and after a valid sample ---- */
 
-/* Three to five instances: one or two of occupancy, two or more of light. */
+/* Three to five instances: one or two of occupancy, two or more of light or colour. */
 static void declare_thirds(generator *g)
 {
     unsigned count = 3 + below(g, 3), occupancy = below(g, 3);
     for (unsigned i = 0; i < count; i++) {
         if (i % 3 == occupancy) declare_occupancy(g);
+        else if (chance(g, 25)) declare_colour(g);
         else declare_light(g, 1 + below(g, 24));
     }
 }
@@ -876,6 +1064,14 @@ static unsigned any_of_type(generator *g, unsigned type)
 {
     unsigned number = any_instance(g);
     while (g->instance[number].type != type) number = (number + 1) % g->declared;
+    return number;
+}
+
+/* Of light or colour. */
+static unsigned any_but_occupancy(generator *g)
+{
+    unsigned number = any_instance(g);
+    while (g->instance[number].type == OCCUPANCY) number = (number + 1) % g->declared;
     return number;
 }
 
@@ -934,7 +1130,7 @@ static void end_first_part(generator *g, unsigned number)
 {
     const sketch *s = &g->instance[number];
     if (s->had_valid) put_sa(g, number, 1, 0);
-    else put_sa(g, number, 0, ONE_OF(g, light_most(s) + 1, 0xFFFFFF));
+    else put_sa(g, number, 0, s->type == COLOUR ? bad_colour(g) : ONE_OF(g, light_most(s) + 1, 0xFFFFFF));
 }
 
 /* Status 1 that is refused for another reason, or because there was a valid sample. */
@@ -951,14 +1147,14 @@ static void end_last_part(generator *g, unsigned number)
 static void unready(generator *g, test_case *c)
 {
     declare_thirds(g);
-    unsigned number = any_of_type(g, LIGHT);
+    unsigned number = any_but_occupancy(g);
     set_times(g, number, (uint8_t)ONE_OF(g, 0, 0, 1, 30), (uint8_t)ONE_OF(g, 0, 1, 30));
     if (chance(g, 50)) put_valid(g, any_of_type(g, OCCUPANCY));
     if (chance(g, 60)) {
         unready_part(g, number);
         end_first_part(g, number);
         c->before_len = g->len;
-        if (chance(g, 25)) number = any_of_type(g, LIGHT);
+        if (chance(g, 25)) number = any_but_occupancy(g);
     }
     unready_part(g, number);
     end_last_part(g, number);
@@ -1060,12 +1256,12 @@ static void twins(generator *g, test_case *c, unsigned turn)
 
 /* ---- Profile n: movement-based occupancy ---- */
 
-/* A few of it, with a few others before, between and behind. */
-static void declare_movements(generator *g, unsigned count, unsigned others)
+/* A few of one kind, with a few others before, between and behind. */
+static void declare_among(generator *g, void (*declare_one)(generator *), unsigned count, unsigned others)
 {
     while (count + others > 0) {
         if (below(g, count + others) < count) {
-            declare_movement(g);
+            declare_one(g);
             count--;
         } else {
             if (chance(g, 60)) declare_presence(g);
@@ -1257,7 +1453,7 @@ static void end_part(generator *g, test_case *c)
 static void long_hold(generator *g)
 {
     g->work_left = 120000;
-    declare_movements(g, 1, below(g, 2));
+    declare_among(g, declare_movement, 1, below(g, 2));
     unsigned number = any_movement(g);
     if (chance(g, 50)) set_to(g, number, 0x21, (uint8_t)ONE_OF(g, 163, 164, 254, 255));
     begin_hold(g, number);
@@ -1273,11 +1469,287 @@ static void movement(generator *g, test_case *c)
         return;
     }
     unsigned rounds = 10 + below(g, 10), parted = chance(g, 30) ? below(g, rounds) : rounds;
-    declare_movements(g, 1 + below(g, 3), below(g, 3));
+    declare_among(g, declare_movement, 1 + below(g, 3), below(g, 3));
     for (unsigned i = 0; i < g->declared; i++) if (g->instance[i].by == IM && chance(g, 90)) settle_movement(g, i);
     for (unsigned i = 0; i < rounds; i++) {
         if (i == parted) end_part(g, c);
         movement_round(g);
+    }
+}
+
+/* ---- Profile o: colour ---- */
+
+/* What an instance's last ticks made of it. */
+static void ask_colour(generator *g, unsigned number)
+{
+    if (chance(g, 25)) query_value(g, number);
+    if (chance(g, 20)) put_command(g, number, ONE_OF(g, 0x4C, 0x4D, 0x4E, 0x4F, 0x82, 0x83, 0x90));
+}
+
+static void show_colour(generator *g, unsigned number, uint32_t colour, unsigned ticks)
+{
+    put_sa(g, number, 0, colour);
+    put_tk(g, ticks);
+    ask_colour(g, number);
+}
+
+static uint32_t inside_colour(generator *g, const sketch *s)
+{
+    return changed_colour(g, s->last, below(g, s->band + 1));
+}
+
+/* Just outside of the band, or far. */
+static uint32_t outside_colour(generator *g, const sketch *s)
+{
+    return changed_colour(g, s->last, s->band + ONE_OF(g, 1, 1, 2, 100));
+}
+
+/* A report of 100 ticks, or of the dead time if that is more, that begins now. */
+static void start_colour_report(generator *g, unsigned number)
+{
+    set_to(g, number, 0x40, 0);
+    set_to(g, number, 0x40, 1);
+}
+
+/* Up to the end of such a report, or a tick before or behind it. */
+static void pass_report_time(generator *g, unsigned number)
+{
+    unsigned deadtime = g->instance[number].deadtime;
+    put_tk(g, (deadtime > 100 ? deadtime : 100) + below(g, 3) - 1);
+}
+
+/* A colour that a band may begin from, and then colours at its edge. */
+static void pass_edges(generator *g, unsigned number)
+{
+    sketch *s = &g->instance[number];
+    if (chance(g, 40)) show_colour(g, number, colour_value(g, s), 1 + s->deadtime);
+    for (unsigned i = 1 + below(g, 4); i > 0; i--) show_colour(g, number, edge_colour(g, s), chance(g, 70) ? 1 : 1 + s->deadtime);
+}
+
+/* A failure between equal colours, or between different ones. */
+static void pass_colour_failure(generator *g, unsigned number)
+{
+    sketch *s = &g->instance[number];
+    put_sa(g, number, 2, 0);
+    put_tk(g, 1 + below(g, 2));
+    query_sample(g, number);
+    switch (below(g, 4)) {
+    case 0: show_colour(g, number, s->last, 2); break;
+    case 1: show_colour(g, number, BLACK, 2); break;
+    default: show_colour(g, number, edge_colour(g, s), 2); break;
+    }
+}
+
+/* A report inside the band, and then colours at its edge. */
+static void pass_report_inside(generator *g, unsigned number)
+{
+    sketch *s = &g->instance[number];
+    put_tk(g, s->deadtime);
+    start_colour_report(g, number);
+    put_sa(g, number, 0, inside_colour(g, s));
+    pass_report_time(g, number);
+    show_colour(g, number, edge_colour(g, s), 1 + s->deadtime);
+}
+
+/* A report outside the band with hysteresis 0, and then with another: the same colour, or one at the edge of the band. */
+static void pass_report_mute(generator *g, unsigned number)
+{
+    sketch *s = &g->instance[number];
+    uint8_t hysteresis = s->hysteresis;
+    start_colour_report(g, number);
+    set_to(g, number, 0x41, 0);
+    put_sa(g, number, 0, outside_colour(g, s));
+    pass_report_time(g, number);
+    set_to(g, number, 0x41, hysteresis > 0 ? hysteresis : 10);
+    if (chance(g, 50)) put_sa(g, number, 0, edge_colour(g, s));
+    put_tk(g, 1 + s->deadtime);
+}
+
+/* A colour that is held back, disabled or by the filter, until the report is due too; or goes back before. */
+static void pass_report_together(generator *g, unsigned number)
+{
+    sketch *s = &g->instance[number];
+    bool disabled = chance(g, 50);
+    start_colour_report(g, number);
+    if (disabled) put_command(g, number, 0x63);
+    else set_to(g, number, 0x68, 0);
+    put_sa(g, number, 0, outside_colour(g, s));
+    if (chance(g, 70)) pass_report_time(g, number);
+    else put_tk(g, 1 + below(g, 3));
+    if (chance(g, 30)) put_sa(g, number, 0, edge_colour(g, s));
+    if (disabled) put_command(g, number, 0x62);
+    else set_to(g, number, 0x68, 1);
+    put_tk(g, 1);
+    ask_colour(g, number);
+    if (chance(g, 50)) show_colour(g, number, edge_colour(g, s), 1 + s->deadtime);
+}
+
+/* A change in dead time, that stays or goes back before its end. */
+static void pass_colour_dead_time(generator *g, unsigned number)
+{
+    sketch *s = &g->instance[number];
+    unsigned deadtime = ONE_OF(g, 2, 3, 10, 30);
+    set_to(g, number, 0x42, 0);
+    set_to(g, number, 0x42, (uint8_t)deadtime);
+    show_colour(g, number, outside_colour(g, s), 1);
+    show_colour(g, number, outside_colour(g, s), 1);
+    if (chance(g, 50)) put_sa(g, number, 0, inside_colour(g, s));
+    if (chance(g, 30)) set_to(g, number, 0x42, (uint8_t)ONE_OF(g, 0, 1));
+    put_tk(g, deadtime - below(g, 2));
+    show_colour(g, number, edge_colour(g, s), 2);
+}
+
+/* A new filter, most often one that is not taken, and what it lets by. */
+static void pass_colour_filter(generator *g, unsigned number)
+{
+    set_to(g, number, 0x68, (uint8_t)ONE_OF(g, 0, 1));
+    set_to(g, number, 0x68, (uint8_t)ONE_OF(g, 0, 1, 2, 2, 3, 3, 254, 255));
+    put_command(g, number, 0x90);
+    show_colour(g, number, outside_colour(g, &g->instance[number]), 1);
+    set_to(g, number, 0x68, 1);
+}
+
+/* One 4B, now and then to another type, and before it one that does not count. */
+static void query_sensor(generator *g)
+{
+    unsigned number = chance(g, 75) ? any_of_type(g, COLOUR) : any_instance(g);
+    if (chance(g, 5)) put_fr(g, ONE_OF(g, 0x00, 0x03, 0xFE), number, 0x4B);
+    if (chance(g, 5)) put_fr(g, 0x01, g->declared + below(g, 2) * 16, 0x4B);
+    put_command(g, number, 0x4B);
+}
+
+/* A setting from what DTR0 holds, and the query for it. */
+static void set_from_dtr0(generator *g, unsigned number)
+{
+    const sketch *s = &g->instance[number];
+    unsigned opcode = any_setting(g, s);
+    put_command(g, number, opcode);
+    remember(g, number, opcode, g->dtr0);
+    if (s->type == COLOUR) for (unsigned i = 0; i < 4; i++) put_command(g, number, 0x4C + i);
+    put_command(g, number, ONE_OF(g, 0x84, 0x90));
+}
+
+/* 4B in a row, through the table and past its end, or from 255 round to 0; at times while a value is read. */
+static void pass_sensor_queries(generator *g, unsigned number)
+{
+    load_dtr0(g, telling_dtr0(g, 0x4B));
+    if (chance(g, 30)) put_command(g, number, 0x8C);
+    for (unsigned i = 1 + below(g, 6); i > 0; i--) query_sensor(g);
+    if (chance(g, 25)) for (unsigned i = 0; i < 16; i++) put_command(g, number, 0x4B);
+    put_command(g, number, ONE_OF(g, 0x8D, 0x4C, 0x4F));
+    if (chance(g, 70)) set_from_dtr0(g, chance(g, 70) ? number : any_instance(g));
+    query_sensor(g);
+}
+
+/* Opcodes of another type, or of none, to colour, and those of colour to the others; and what shows of it. */
+static void pass_foreign(generator *g)
+{
+    unsigned number = any_instance(g);
+    const sketch *s = &g->instance[number];
+    bool colour = s->type == COLOUR;
+    unsigned opcode = colour ? ONE_OF(g, 0x20, 0x21, 0x22, 0x23, 0x24, 0x30, 0x31, 0x32, 0x33, 0x44, 0x4A)
+                             : ONE_OF(g, 0x40, 0x41, 0x42, 0x43);
+    load_dtr0(g, (uint8_t)ONE_OF(g, 0, 1, 7, 7));
+    put_command(g, number, opcode);
+    for (unsigned i = 0; i < 4; i++) put_command(g, number, (colour ? 0x4C : s->type == LIGHT ? 0x3C : 0x2C) + i);
+    put_command(g, number, colour ? ONE_OF(g, 0x2C, 0x2D, 0x2E, 0x3C, 0x3D, 0x3E, 0x3F) : ONE_OF(g, 0x4B, 0x4C, 0x4D, 0x4E, 0x4F));
+    sample(g, number);
+    put_tk(g, 1 + below(g, 3));
+}
+
+static void colour_round(generator *g)
+{
+    unsigned number = any_of_type(g, COLOUR);
+    switch (below(g, 14)) {
+    case 0: case 1: case 2: pass_edges(g, number); break;
+    case 3: pass_colour_failure(g, number); break;
+    case 4: case 5: pass_report_inside(g, number); break;
+    case 6: pass_report_mute(g, number); break;
+    case 7: pass_report_together(g, number); break;
+    case 8: pass_colour_dead_time(g, number); break;
+    case 9: pass_colour_filter(g, number); break;
+    case 10: case 11: pass_sensor_queries(g, number); break;
+    case 12: pass_foreign(g); break;
+    default: step_set(g); break;
+    }
+}
+
+/* Settings by which bands and reports show; and a first valid colour: black, dark, white or any. */
+static void settle_colour(generator *g, unsigned number)
+{
+    if (chance(g, 85)) set_times(g, number, (uint8_t)ONE_OF(g, 0, 0, 0, 1, 5, 120), (uint8_t)ONE_OF(g, 0, 1, 1));
+    if (chance(g, 50)) set_to(g, number, 0x41, (uint8_t)ONE_OF(g, 0, 1, 5, 24, 25, 25));
+    if (chance(g, 60)) set_to(g, number, 0x43, (uint8_t)ONE_OF(g, 0, 0, 1, 12, 13, 255));
+    switch (below(g, 4)) {
+    case 0: show_colour(g, number, BLACK, 1 + below(g, 2)); break;
+    case 1: show_colour(g, number, dark_colour(g, 6), 1); break;
+    case 2: show_colour(g, number, WHITE, 1); break;
+    default: show_colour(g, number, any_colour(g), 1); break;
+    }
+}
+
+/* A sample that is not allowed: what does its refusal leave, when the reading goes on? */
+static void end_colour_part(generator *g, test_case *c)
+{
+    unsigned number = any_of_type(g, COLOUR);
+    const sketch *s = &g->instance[number];
+    switch (below(g, 4)) {
+    case 0: put_sa(g, number, 1, 0); break;
+    case 1: put_sa(g, number, 1 + below(g, 2), ONE_OF(g, 1, 0x100, 0x10000)); break;
+    default: put_sa(g, number, 0, bad_colour(g)); break;
+    }
+    c->before_len = g->len;
+    put_tk(g, 1);
+    query_sample(g, number);
+    put_command(g, number, 0x4B);
+    show_colour(g, number, edge_colour(g, s), 1 + s->deadtime);
+}
+
+/* 4B until the output has no room for an answer: what does the one that is refused leave? */
+static void short_answers(generator *g, test_case *c)
+{
+    unsigned fit = 1 + below(g, 3);
+    c->log_len = 8 * fit + below(g, 8);
+    declare_among(g, declare_colour, 1 + below(g, 2), below(g, 2));
+    load_dtr0(g, (uint8_t)ONE_OF(g, below(g, 12), below(g, 12), 13, 14, 254));
+    for (unsigned i = fit + 1 + below(g, 3); i > 0; i--) put_command(g, any_of_type(g, COLOUR), 0x4B);
+    c->before_len = g->len;
+    unsigned number = any_of_type(g, COLOUR);
+    if (chance(g, 50)) put_command(g, number, 0x43), put_command(g, number, 0x4C);
+    put_command(g, number, 0x4B);
+    put_command(g, number, 0x4B);
+}
+
+/* Reports as they are at the start, and what is sent between them. */
+static void long_reports(generator *g)
+{
+    g->work_left = 20000;
+    declare_among(g, declare_colour, 1, below(g, 2));
+    unsigned number = any_of_type(g, COLOUR);
+    if (chance(g, 60)) show_colour(g, number, colour_value(g, &g->instance[number]), 1);
+    for (unsigned i = 0; i < 3; i++) {
+        put_tk(g, 2998 + below(g, 3));
+        show_colour(g, number, colour_value(g, &g->instance[number]), 1 + below(g, 3));
+    }
+}
+
+static void colours(generator *g, test_case *c)
+{
+    unsigned how = below(g, 20), rounds = 10 + below(g, 10), parted = chance(g, 30) ? below(g, rounds) : rounds;
+    if (how < 3) {
+        short_answers(g, c);
+        return;
+    }
+    if (how == 3) {
+        long_reports(g);
+        return;
+    }
+    declare_among(g, declare_colour, 1 + below(g, 2), below(g, 3));
+    begin_unready(g);
+    for (unsigned i = 0; i < g->declared; i++) if (g->instance[i].type == COLOUR && chance(g, 90)) settle_colour(g, i);
+    for (unsigned i = 0; i < rounds; i++) {
+        if (i == parted) end_colour_part(g, c);
+        colour_round(g);
     }
 }
 
@@ -1293,8 +1765,9 @@ static unsigned place_of(uint64_t seed)
 static char profile_of(uint64_t seed)
 {
     static const struct { unsigned up_to; char profile; } shares[] = {
-        {9, 'a'}, {12, 'n'}, {18, 'l'}, {26, 'b'}, {28, 'n'}, {36, 'c'}, {38, 'n'}, {46, 'm'}, {52, 'd'}, {54, 'n'}, {58, 'k'},
-        {60, 'e'}, {78, 'f'}, {85, 'g'}, {87, 'n'}, {90, 'h'}, {92, 'i'}, {100, 'j'},
+        {8, 'a'}, {10, 'o'}, {12, 'n'}, {18, 'l'}, {25, 'b'}, {26, 'o'}, {28, 'n'}, {35, 'c'}, {36, 'o'}, {38, 'n'}, {46, 'm'},
+        {51, 'd'}, {52, 'o'}, {54, 'n'}, {58, 'k'}, {60, 'e'}, {78, 'f'}, {84, 'g'}, {86, 'o'}, {87, 'n'}, {90, 'h'}, {92, 'i'},
+        {100, 'j'},
     };
     unsigned i = 0;
     while (place_of(seed) >= shares[i].up_to) i++;
@@ -1318,7 +1791,7 @@ test_case generate(uint64_t seed, char profile)
     case 'c': occupancy_filters(&g); break;
     case 'd': timer_ends(&g); break;
     case 'e': g.work_left = 10000; long_quiet(&g); break;
-    case 'f': damaged(&g, turn_of(seed, DAMAGED_TURNS / 4, 4)); break;
+    case 'f': damaged(&g, turn_of(seed, DAMAGED_TURNS / 5, 5)); break;
     case 'g': c.log_len = below(&g, 401); short_output(&g); break;
     case 'h': last_ticks(&g, &c); break;
     case 'i': far_ticks(&g, &c); break;
@@ -1326,7 +1799,8 @@ test_case generate(uint64_t seed, char profile)
     case 'l': unready(&g, &c); break;
     case 'm': twins(&g, &c, turn_of(seed, 8, 1)); break;
     case 'n': g.work_left = 8000; movement(&g, &c); break;
-    default: third_bytes(&g, turn_of(seed, 8, 4)); break;
+    case 'o': g.work_left = 8000; colours(&g, &c); break;
+    default: third_bytes(&g, turn_of(seed, 8, 6)); break;
     }
     c.session = buffer;
     c.session_len = g.len;

@@ -11,17 +11,19 @@
  *   c  occupancy, by IN or by IM: all filters
  *   d  timers at their ends
  *   e  long quiet runs
- *   f  damaged, cut and random bytes; and declarations that are refused, by IN, LO and IM, all of them within 400 seeds
+ *   f  damaged, cut and random bytes; and declarations that are refused, by IN, LO and IM, all of them within 500 seeds
  *   g  outputs of 0 to 400 bytes
  *   h  ticks near 4,294,967,295
  *   i  tick numbers of four bytes
- *   j  every third byte, to light and to occupancy of either kind; all of them within 400 seeds
- *   k  deadtime set while dead time runs, of light and of occupancy
- *   l  light not ready, before and after a valid sample; and what a refused sample leaves, in a second part
+ *   j  every third byte, to light, to colour and to occupancy of either kind; all of them within 600 seeds
+ *   k  deadtime set while dead time runs, of light or colour and of occupancy
+ *   l  light and colour not ready, before and after a valid sample; and what a refused sample leaves, in a second part
  *   m  light by IN and by LO side by side, of the same resolution and settings, given the same samples: values at the edges of
  *      either band; all resolutions within 100 seeds, and some sessions in two parts
  *   n  movement-based occupancy, mixed with the others: movement, failures and commands about the tick at which a hold expires;
  *      catching; some sessions in two parts, and some in which a long hold runs
+ *   o  colour, mixed with the others: changes at the band's edge, in one channel or over three; reports inside the band, outside it and
+ *      together with a change; rows of 4B and what DTR0 is then; some sessions in two parts, of some of which the output is too short
  */
 typedef struct {
     uint64_t seed;
@@ -30,13 +32,13 @@ typedef struct {
     size_t session_len;
     /* So many first bytes are read as a session of their own, whatever number it comes to, and the rest as a session from the
      * model that was left. The rest's reading is compared; its log begins at the log's first byte, over the first one's.
-     * 0, and nothing is read before, but for profiles l, m and n. */
+     * 0, and nothing is read before, but for profiles l, m, n and o. */
     size_t before_len;
     size_t log_len;
     uint32_t start_tick; /* the tick number that the model begins with; 0 but for profiles h and i */
 } test_case;
 
-enum { GENERATOR_LOG_MAX = 4096, GENERATOR_LAST_PROFILE = 'n' };
+enum { GENERATOR_LOG_MAX = 4096, GENERATOR_LAST_PROFILE = 'o' };
 
 /* The profile is one of a to GENERATOR_LAST_PROFILE, or 0: the seed chooses. */
 test_case generate(uint64_t seed, char profile);
