@@ -877,15 +877,15 @@ static void declare_pair(generator *g, pair p)
 }
 
 /* Settings that are not the DTR0 of profile j nor, but for the filter of light and colour, the defaults; a report every 20 ticks, of colour
- * every 100. */
-static void settle(generator *g, unsigned number, unsigned deadtime)
+ * every 100, and beside it every 80: the output has to hold sixteen turns. */
+static void settle(generator *g, pair p, unsigned number, unsigned deadtime)
 {
     const sketch *s = &g->instance[number];
     put_command(g, number, 0x62);
     set_to(g, number, 0x61, 3);
     uint32_t filter = s->by == IM ? ONE_OF(g, 0x17, 0x1F, 0x1F) : ONE_OF(g, 0x07, 0x0F, 0x17, 0x1F);
     set_to(g, number, 0x68, s->type == OCCUPANCY ? (uint8_t)filter : 1);
-    set_times(g, number, (uint8_t)deadtime, 1);
+    set_times(g, number, (uint8_t)deadtime, p.colour && s->type == OCCUPANCY ? 4 : 1);
     if (s->type != OCCUPANCY) set_to(g, number, hysteresis_opcode(s), (uint8_t)ONE_OF(g, 1, 10, 25));
 }
 
@@ -939,8 +939,8 @@ static void query_settings(generator *g, pair p)
 static void turn(generator *g, pair p, unsigned byte)
 {
     const sketch *light = &g->instance[p.light];
-    settle(g, p.light, p.deadtime);
-    settle(g, p.occupancy, p.deadtime);
+    settle(g, p, p.light, p.deadtime);
+    settle(g, p, p.occupancy, p.deadtime);
     swing(g, p);
     put_tk(g, 1);
     swing(g, p);
@@ -989,8 +989,8 @@ static void set_both(generator *g, pair p, unsigned (*opcode)(const sketch *), u
 /* An event of each, which starts dead time and, at least as long, the report timer. */
 static void send_both(generator *g, pair p)
 {
-    settle(g, p.light, 0);
-    settle(g, p.occupancy, 0);
+    settle(g, p, p.light, 0);
+    settle(g, p, p.occupancy, 0);
     swing(g, p);
     put_tk(g, 1);
     set_both(g, p, deadtime_opcode, p.deadtime);
