@@ -260,6 +260,164 @@
     X(LIGHT_ANSWERS_2D, "light answers 2D with MASK") \
     X(LIGHT_ANSWERS_2F, "light answers 2F with 0") \
     X(IM_ANSWERS_29, "IM answers 29") \
+    /* Colour sensors (02, M-104): declarations, at the start */ \
+    X(COLOUR_REFUSED, "IN of type 5 refused with 4") \
+    X(COLOUR_RESOLUTION_2, "colour with resolution 2 taken, as 24") \
+    X(COLOUR_RESOLUTION_8, "colour with resolution 8 taken, as 24") \
+    X(COLOUR_RESOLUTION_23, "colour with resolution 23 taken, as 24") \
+    X(COLOUR_RESOLUTION_25, "colour with resolution 25 taken, as 24") \
+    X(TYPE_6_IS_COLOUR, "type 6 taken for colour") \
+    X(LO_COLOUR_TAKEN, "LO of type 5 taken, as IN's") \
+    X(LO_COLOUR_IS_LIGHT, "LO of type 5 taken for light") \
+    X(IM_COLOUR_TAKEN, "IM of type 5 taken, as IN's") \
+    X(COLOUR_DEADTIME_OF_OCCUPANCY, "colour starts with occupancy's deadtime") \
+    X(COLOUR_REPORT_OF_OCCUPANCY, "colour starts with occupancy's report") \
+    X(COLOUR_FILTER_OF_OCCUPANCY, "colour starts with occupancy's filter") \
+    X(COLOUR_PRIORITY_2, "colour starts with priority 2") \
+    X(COLOUR_HYSTERESIS_OF_LIGHT, "colour starts with light's hysteresis") \
+    X(COLOUR_MIN_OF_LIGHT, "colour starts with hysteresisMin by its resolution, as light") \
+    X(COLOUR_MIN_STARTS_AS_0, "colour starts with hysteresisMin 0") \
+    X(COLOUR_STARTS_VALID, "colour valid and black before its first sample") \
+    X(COLOUR_REPORT_WAITS, "report timer of colour starts with its first valid tick") \
+    X(FIRST_BAND_IS_MIN, "first band of colour is hysteresisMin, not 0") \
+    X(CALL_FORGETS_LAST, "reading that goes on from an earlier one's state forgets colour's last values") \
+    X(CALL_FORGETS_COLOUR_BAND, "reading that goes on from an earlier one's state forgets colour's band") \
+    X(CALL_FORGETS_DTR0, "reading that goes on from an earlier one's state forgets DTR0") \
+    /* Colour sensors (02, M-104): samples, values, information */ \
+    X(RED_255_TAKEN, "red of 255 taken") \
+    X(GREEN_255_TAKEN, "green of 255 taken") \
+    X(BLUE_255_TAKEN, "blue of 255 taken") \
+    X(COLOUR_VALUE_OF_LIGHT, "colour takes any value but 0xFFFFFF, as light") \
+    X(CHANNEL_254_REFUSED, "channel of 254 refused") \
+    X(CHANNEL_255_HELD, "colour with a channel of 255 refused, and held all the same") \
+    X(COLOUR_NOT_READY_REFUSED, "colour status 1 refused with 6, as occupancy's") \
+    X(COLOUR_NOT_READY_WITH_VALUE, "colour: value other than 0 taken with status 1") \
+    X(COLOUR_FAILURE_WITH_VALUE, "colour: value other than 0 taken with status 2") \
+    X(COLOUR_NOT_READY_TAKEN, "colour: status 1 after a valid sample taken, as before M-110") \
+    X(COLOUR_NOT_READY_AFTER_FAILURE, "colour: status 1 after a valid sample taken while a failure is held") \
+    X(COLOUR_THIRTEEN_BEFORE_SIX, "colour status 1 with a value other than 0, after a valid sample: 13 before 6") \
+    X(RED_ON_TOP, "inputValue of colour with red on top") \
+    X(COLOUR_MASK_MISSING, "colour: MASK missing, the last value shown") \
+    X(COLOUR_MASK_IS_0, "colour: MASK is 00 00 00") \
+    X(COLOUR_MASK_OF_TWO_BYTES, "colour: MASK of two bytes") \
+    X(COLOUR_INFORMATION_RED_ON_TOP, "information of colour with red on top") \
+    X(COLOUR_INFORMATION_TWO_BITS, "information of two bits of each channel") \
+    X(COLOUR_INFORMATION_TEN_BITS, "information of four bits of blue: bit 9 used") \
+    X(COLOUR_INFORMATION_OF_LIGHT, "information of colour is the top ten bits of its value, as light's") \
+    X(COLOUR_INFORMATION_LOW_BITS, "information of the low three bits of each channel") \
+    X(COLOUR_REPORT_MARKED, "information bit 9 set in colour's reports") \
+    /* Colour sensors (02, M-104): the change */ \
+    X(CHANGE_OF_ONE, "change is that of the channel that changed most") \
+    X(CHANGE_OF_RED_ALONE, "change of red alone") \
+    X(CHANGE_WITHOUT_RED, "change without red") \
+    X(CHANGE_WITHOUT_GREEN, "change without green") \
+    X(CHANGE_WITHOUT_BLUE, "change without blue") \
+    X(CHANGE_SIGNED, "change of the sum: rises and falls cancel") \
+    X(CHANGE_OF_RISES_ALONE, "change of channels that rise alone") \
+    X(CHANGE_OF_NUMBER, "change of the 24-bit number") \
+    X(CHANGE_IN_A_BYTE, "change kept in a byte") \
+    X(CHANGE_FROM_TICK_BEFORE, "change from the tick before, not from the last event by a change") \
+    X(CHANGE_AT_BAND, "change as large as the band sends") \
+    X(CHANGE_PASSES, "change sends only at the tick at which it becomes greater than the band") \
+    X(CHANGE_WAITS, "change in dead time waits, and sends though it goes back") \
+    X(COLOUR_DEAD_TIME_FORGETS, "change in dead time forgotten: last values and band new without an event") \
+    X(COLOUR_DISABLED_FORGETS, "change while disabled forgotten: last values and band new without an event") \
+    X(FIRST_BLACK_SENDS, "black sends where last values and band are 0") \
+    X(SAME_INFORMATION_UNSENT, "change that leaves the information as it was not sent") \
+    X(COLOUR_HYSTERESIS_0_SENDS, "colour: hysteresis 0 sends by the change") \
+    X(COLOUR_CHANGE_UNFILTERED, "colour's change sent without filter bit 0") \
+    X(COLOUR_REPORT_UNFILTERED, "colour's report sent without filter bit 0") \
+    X(COLOUR_SENDS_NOT_READY, "colour's report sent while not ready") \
+    X(COLOUR_PRIORITY_5_NOT_ALONE, "colour: priority 5 whenever the due report is a cause, the only one or not") \
+    X(COLOUR_CHANGE_PRIORITY_5, "colour: priority 5 for a change") \
+    X(COLOUR_REPORT_OWN_PRIORITY, "colour's report sent with its own priority") \
+    /* Colour sensors (02, M-104): last values and band */ \
+    X(COLOUR_REPORT_INSIDE_RENEWS, "report inside the band makes last values and band new") \
+    X(COLOUR_REPORT_OUTSIDE_RENEWS, "report outside the band, with hysteresis 0, makes last values and band new") \
+    X(COLOUR_REPORT_RENEWS_LAST, "report makes the last values new, not the band") \
+    X(COLOUR_REPORT_RENEWS_BAND, "report makes the band new, not the last values") \
+    X(COLOUR_TOGETHER_RENEWS_NOTHING, "change together with a due report leaves last values and band") \
+    X(COLOUR_BAND_STAYS, "first band stays, last values made new alone") \
+    X(COLOUR_LAST_STAYS, "last values stay black, band made new alone") \
+    X(COLOUR_BAND_SUM, "band is the sum of hysteresisMin and hysteresis percent") \
+    X(COLOUR_BAND_SMALLER, "band is the smaller of the two") \
+    X(COLOUR_MIN_IGNORED, "band without hysteresisMin") \
+    X(COLOUR_HYSTERESIS_IGNORED, "band of hysteresisMin alone") \
+    X(COLOUR_BAND_ROUNDED_UP, "band rounded up") \
+    X(COLOUR_BAND_ROUNDED_NEAR, "band rounded to the nearest") \
+    X(COLOUR_BAND_ROUNDED_THRICE, "band rounded down channel by channel") \
+    X(COLOUR_BAND_OF_LARGEST, "band of the largest channel") \
+    X(COLOUR_BAND_OF_RED, "band of red alone") \
+    X(COLOUR_BAND_WITHOUT_BLUE, "band without blue") \
+    X(COLOUR_BAND_OF_MEAN, "band of the mean of the channels") \
+    X(COLOUR_BAND_OF_CHANGE, "band of the change, not of the values") \
+    X(COLOUR_BAND_OF_LAST, "band of the values before the event") \
+    X(COLOUR_BAND_OF_NOW, "band by the settings of now, not of its event") \
+    X(COLOUR_BAND_191_AT_MOST, "band held at 191") \
+    X(FAILURE_DISCARDS_COLOUR, "failure makes last values and band 0") \
+    X(FAILURE_DISCARDS_COLOUR_BAND, "failure makes the band 0") \
+    X(FAILURE_DISCARDS_LAST, "failure makes the last values 0") \
+    X(COLOUR_SENDS_AFTER_FAILURE, "first valid colour behind a failure sends in any case") \
+    X(DISABLING_DISCARDS_COLOUR, "disabling makes last values and band 0") \
+    /* Colour sensors (02, M-104): timers, settings, queries */ \
+    X(COLOUR_REPORT_UNIT_20, "report unit of colour 20 ticks") \
+    X(REPORT_UNIT_100, "report unit of all types 100 ticks") \
+    X(COLOUR_DEADTIME_UNIT_2, "deadtime unit of colour 2 ticks") \
+    X(COLOUR_REPORT_BELOW_DEAD_TIME, "colour's report not held at dead time") \
+    X(COLOUR_DEAD_TIME_0_RUNS_ON, "colour: deadtime set to 0 does not end the running dead time") \
+    X(COLOUR_ENABLE_STARTS_REPORT, "enabling starts colour's report timer") \
+    X(COLOUR_FILTER_MASKED, "68 of colour above 1 takes bit 0") \
+    X(COLOUR_FILTER_TAKEN_WHOLE, "68 of colour above 1 taken as it is") \
+    X(COLOUR_FILTER_0_REFUSED, "68 of colour with 0 not taken") \
+    X(LIGHT_FILTER_DISCARDED, "68 of light above 1 not taken, as colour's") \
+    X(OCCUPANCY_FILTER_DISCARDED, "68 of occupancy above 1F not taken, as colour's") \
+    X(COLOUR_HYSTERESIS_HELD, "hysteresis of colour above 25 taken as 25") \
+    X(COLOUR_MIN_191_AT_MOST, "hysteresisMin of colour above 191 not taken") \
+    X(COLOUR_40_42_SWAPPED, "40 and 42 swapped") \
+    X(COLOUR_41_43_SWAPPED, "41 and 43 swapped") \
+    X(COLOUR_4C_4F_SWAPPED, "4C and 4F swapped") \
+    X(COLOUR_4D_4E_SWAPPED, "4D and 4E swapped") \
+    X(COLOUR_44_SETS_MIN, "colour: 44 sets hysteresisMin") \
+    X(COLOUR_ANSWERS_TYPE_4, "colour: 80 answers 4") \
+    X(COLOUR_ANSWERS_CHANNEL_WIDTH, "colour: 81 answers 8") \
+    X(COLOUR_ANSWERS_4A, "colour answers 4A") \
+    X(COLOUR_OBEYS_LIGHT, "colour obeys light's setting commands") \
+    X(COLOUR_OBEYS_OCCUPANCY, "colour obeys occupancy's setting commands") \
+    X(LIGHT_OBEYS_COLOUR, "light obeys colour's setting commands") \
+    X(OCCUPANCY_OBEYS_COLOUR, "occupancy obeys colour's setting commands") \
+    X(COLOUR_ANSWERS_LIGHT, "colour answers light's queries") \
+    X(COLOUR_ANSWERS_OCCUPANCY, "colour answers occupancy's queries") \
+    X(LIGHT_ANSWERS_COLOUR, "light answers colour's queries") \
+    X(OCCUPANCY_ANSWERS_COLOUR, "occupancy answers colour's queries") \
+    /* Colour sensors (02, M-104): the colour query */ \
+    X(COLOUR_IGNORES_4B, "4B ignored") \
+    X(DISABLED_IGNORES_4B, "4B ignored while disabled") \
+    X(FAILED_IGNORES_4B, "4B ignored while not ready or failed") \
+    X(LIGHT_ANSWERS_4B, "light answers 4B, and DTR0 counts up") \
+    X(OCCUPANCY_ANSWERS_4B, "occupancy answers 4B, and DTR0 counts up") \
+    X(LIGHT_COUNTS_DTR0, "4B to light counts DTR0 up") \
+    X(OCCUPANCY_COUNTS_DTR0, "4B to occupancy counts DTR0 up") \
+    X(UNDECLARED_COUNTS_DTR0, "4B to an instance that is not declared counts DTR0 up") \
+    X(OTHER_ADDRESS_COUNTS_DTR0, "4B by another address counts DTR0 up") \
+    X(COLOUR_QUERIES_COUNT, "4C to 4F count DTR0 up too") \
+    X(COUNTED_BEFORE_ANSWER, "4B counts DTR0 up before it answers") \
+    X(QUERY_LEAVES_DTR0, "4B does not count DTR0 up") \
+    X(UNANSWERED_LEAVES_DTR0, "4B without an answer does not count DTR0 up") \
+    X(UNANSWERED_WANTS_ROOM, "4B without an answer refused with 9 where no answer has room") \
+    X(FULL_COUNTS_DTR0, "4B that finds no room counts DTR0 up") \
+    X(DTR0_STAYS_255, "4B leaves DTR0 at 255") \
+    X(DTR0_0_AFTER_14, "4B counts DTR0 from 14 to 0") \
+    X(DTR0_COUNTED_PER_INSTANCE, "4B counts for its own instance alone, and not for settings") \
+    X(COLOUR_QUERY_UNLATCHES, "4B drops what is latched") \
+    X(ROW_15_ANSWERED, "4B with DTR0 15 answers 0") \
+    X(NO_ROW_ANSWERED, "4B with DTR0 above 14 answers MASK") \
+    X(WAVELENGTH_ROUNDED_UP, "wavelengths rounded up") \
+    X(WAVELENGTH_AS_PRINTED, "wavelengths as 003, Table A.1 prints them: 188, 138, 88") \
+    X(WAVELENGTH_LOW_BYTE, "wavelengths answered as the low byte of the nanometres") \
+    X(LOWER_WAVELENGTH_FIRST, "lower wavelength first, upper one last") \
+    X(BLUE_WAVELENGTHS_FIRST, "wavelengths of blue first, of red last") \
+    X(BLUE_IRRADIANCE_FIRST, "irradiance of blue first, of red last") \
+    X(IRRADIANCE_LOW_BYTE_FIRST, "low byte of an irradiance first") \
     /* Widths */ \
     X(ZERO_PADDED, "inputValue padded with zeros") \
     X(NOT_WIDENED, "inputValue is the measured value, not widened") \
