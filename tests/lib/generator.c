@@ -97,11 +97,6 @@ static bool has_channel_255(uint32_t colour)
     return channel(colour, 0) == 255 || channel(colour, 1) == 255 || channel(colour, 2) == 255;
 }
 
-static bool value_allowed(const sketch *s, uint32_t value)
-{
-    return value <= light_most(s) && !(s->type == COLOUR && has_channel_255(value));
-}
-
 static void put(generator *g, const uint8_t *bytes, size_t count)
 {
     if (g->len + count > SESSION_MAX) return;
@@ -117,10 +112,17 @@ static void put_declaration(generator *g, mark by, unsigned number, unsigned typ
     PUT(g, (uint8_t)marks[by][0], (uint8_t)marks[by][1], (uint8_t)number, (uint8_t)type, (uint8_t)resolution);
 }
 
+/* Whether a sample of colour is refused. */
+static bool colour_refused(const sketch *s, unsigned status, uint32_t value)
+{
+    if (status == 0) return has_channel_255(value);
+    return status > 2 || value > 0 || (status == 1 && s->had_valid);
+}
+
 static void hold_sample(sketch *s, unsigned status, uint32_t value)
 {
-    if (s->type == COLOUR && (status == 0 ? has_channel_255(value) : status > 2 || value > 0 || (status == 1 && s->had_valid))) return;
-    if (status == 0 && value_allowed(s, value)) s->had_valid = true;
+    if (s->type == COLOUR && colour_refused(s, status, value)) return;
+    if (status == 0 && value <= light_most(s)) s->had_valid = true;
     if (s->by == IM && (status == 1 || value > 1)) return;
     s->failed = status != 0;
     s->moving = status == 0 && (value & 1);
@@ -158,7 +160,8 @@ static unsigned channel_changes(uint32_t from, uint32_t to)
     return sum;
 }
 
-/* What ticks from this one on, up to another, make of the colour that an instance holds. Reports, and their dead time, are left out. */
+/* What ticks from this one on, up to another, make of the colour that an instance holds. Reports, and their dead time, are left
+ * out. */
 static void pass_colour_ticks(sketch *s, uint32_t from, uint32_t to)
 {
     uint32_t at = s->free_from > from ? s->free_from : from;
@@ -341,8 +344,8 @@ static uint32_t step_channel(uint32_t colour, unsigned which, bool up)
     return up ? colour + (1u << 8 * which) : colour - (1u << 8 * which);
 }
 
-/* A colour that differs by so much from another, or by as much as there is: in one channel as far as it goes, or spread over the three,
- * each of which goes one way. */
+/* A colour that differs by so much from another, or by as much as there is: in one channel as far as it goes, or spread over the
+ * three, each of which goes one way. */
 static uint32_t changed_colour(generator *g, uint32_t from, unsigned change)
 {
     uint32_t to = from;
@@ -473,8 +476,8 @@ static void set_times(generator *g, unsigned number, uint8_t deadtime, uint8_t r
     set_to(g, number, report_opcode(&g->instance[number]), report);
 }
 
-/* A setting command of light, of colour and its query that counts DTR0 up, of presence, or of movement-based occupancy and its other
- * commands. */
+/* A setting command of light, of colour and its query that counts DTR0 up, of presence, or of movement-based occupancy and its
+ * other commands. */
 static unsigned any_setting(generator *g, const sketch *s)
 {
     if (s->type == LIGHT) return ONE_OF(g, 0x30, 0x31, 0x32, 0x33, 0x61, 0x68);
@@ -494,8 +497,8 @@ static void set_something(generator *g, unsigned number)
 
 static unsigned any_query(generator *g)
 {
-    return ONE_OF(g, 0x80, 0x81, 0x82, 0x83, 0x84, 0x86, 0x8C, 0x8D, 0x90, 0x2C, 0x2D, 0x2E, 0x2F, 0x3C, 0x3D, 0x3E, 0x3F, 0x4B, 0x4C,
-                  0x4D, 0x4E, 0x4F);
+    return ONE_OF(g, 0x80, 0x81, 0x82, 0x83, 0x84, 0x86, 0x8C, 0x8D, 0x90, 0x2C, 0x2D, 0x2E, 0x2F, 0x3C, 0x3D, 0x3E, 0x3F,
+                  0x4B, 0x4C, 0x4D, 0x4E, 0x4F);
 }
 
 /* The whole input value, or more of it than there is. */
@@ -876,8 +879,8 @@ static void declare_pair(generator *g, pair p)
     }
 }
 
-/* Settings that are not the DTR0 of profile j nor, but for the filter of light and colour, the defaults; a report every 20 ticks, of colour
- * every 100, and beside it every 80: the output has to hold sixteen turns. */
+/* Settings that are not the DTR0 of profile j nor, but for the filter of light and colour, the defaults; a report every 20 ticks, of
+ * colour every 100, and beside it every 80: the output has to hold sixteen turns. */
 static void settle(generator *g, pair p, unsigned number, unsigned deadtime)
 {
     const sketch *s = &g->instance[number];
@@ -897,8 +900,8 @@ static uint32_t far_value(generator *g, const sketch *s)
     return s->base > 2 * quarter ? below(g, quarter) : light_most(s) - below(g, quarter);
 }
 
-/* Samples that are a change for certain: light or colour from one end of its range to the other, presence between occupied and vacant,
- * movement that comes or goes. */
+/* Samples that are a change for certain: light or colour from one end of its range to the other, presence between occupied and
+ * vacant, movement that comes or goes. */
 static void swing(generator *g, pair p)
 {
     sketch *light = &g->instance[p.light], *occupancy = &g->instance[p.occupancy];
@@ -965,8 +968,8 @@ static void turn(generator *g, pair p, unsigned byte)
     put_tk(g, p.deadtime - 1);
 }
 
-/* Sixteen third bytes in a row: in sixteen turns all, to light and presence, in sixteen more to light and movement-based occupancy, and
- * in the last sixteen to colour and presence. Where a swing and its dead time come first, the later ones go the other way. */
+/* Sixteen third bytes in a row: in sixteen turns all, to light and presence, in sixteen more to light and movement-based occupancy,
+ * and in the last sixteen to colour and presence. Where a swing and its dead time come first, the later ones go the other way. */
 static void third_bytes(generator *g, unsigned turns)
 {
     unsigned light = below(g, 2), kinds = turns / 16;

@@ -22,8 +22,9 @@
  *      either band; all resolutions within 100 seeds, and some sessions in two parts
  *   n  movement-based occupancy, mixed with the others: movement, failures and commands about the tick at which a hold expires;
  *      catching; some sessions in two parts, and some in which a long hold runs
- *   o  colour, mixed with the others: changes at the band's edge, in one channel or over three; reports inside the band, outside it and
- *      together with a change; rows of 4B and what DTR0 is then; some sessions in two parts, of some of which the output is too short
+ *   o  colour, mixed with the others: changes at the band's edge, in one channel or over three; reports inside the band, outside
+ *      it and together with a change; rows of 4B, and what DTR0 is then; some sessions in two parts, for the first of which the
+ *      output may be too short
  */
 typedef struct {
     uint64_t seed;

@@ -1,5 +1,5 @@
-/* Checks the second implementation against the values that documents 01 and 003 print and against sessions worked out by hand, and that
- * reading in pieces is reading the whole. */
+/* Checks the second implementation against the values that documents 01 and 003 print and against sessions worked out by hand, and
+ * that reading in pieces is reading the whole. */
 #include "../lib/comparison.h"
 #include "../lib/generator.h"
 #include "../lib/pieces.h"
@@ -260,8 +260,8 @@ static bool colour_agrees(void)
            session_gives(COLOUR_REPORTS_SESSION, sizeof COLOUR_REPORTS_SESSION, COLOUR_REPORTS_LOG, sizeof COLOUR_REPORTS_LOG);
 }
 
-/* 003, Table A.1, but that halves are rounded down (02, M-104): its 188, 138 and 88 are of 187.5, 137.5 and 87.5. The frame behind the last
- * row has no answer, and DTR0 is 16 then, as hysteresisMin shows. */
+/* 003, Table A.1, but that halves are rounded down (02, M-104): its 188, 138 and 88 are of 187.5, 137.5 and 87.5. The frame behind
+ * the last row has no answer, and DTR0 is 16 then, as hysteresisMin shows. */
 static bool sensor_table_agrees(void)
 {
     static const uint8_t answers[] = {187, 175, 162, 137, 125, 100, 112, 87, 75, 1, 84, 1, 104, 0, 200, 16};
@@ -291,8 +291,9 @@ static bool colour_value_agrees(uint8_t red, uint8_t green, uint8_t blue, uint32
 static bool colour_values_agree(void)
 {
     return colour_value_agrees(254, 254, 254, 0x1FF) && colour_value_agrees(31, 31, 31, 0) &&
-           colour_value_agrees(254, 0, 0, 0x007) && colour_value_agrees(0, 254, 0, 0x038) && colour_value_agrees(0, 0, 254, 0x1C0) &&
-           colour_value_agrees(32, 0, 0, 0x001) && colour_value_agrees(0, 64, 0, 0x010) && colour_value_agrees(0, 0, 128, 0x100) &&
+           colour_value_agrees(254, 0, 0, 0x007) && colour_value_agrees(0, 254, 0, 0x038) &&
+           colour_value_agrees(0, 0, 254, 0x1C0) && colour_value_agrees(32, 0, 0, 0x001) &&
+           colour_value_agrees(0, 64, 0, 0x010) && colour_value_agrees(0, 0, 128, 0x100) &&
            colour_value_agrees(0x3F, 0x5F, 0x9F, 0x111);
 }
 
