@@ -654,7 +654,8 @@ static void late_declaration(generator *g)
     size_t start = g->len;
     mark by = any_mark(g);
     bool occupancy = (by == IM) == chance(g, 75);
-    put_declaration(g, by, g->declared, occupancy ? OCCUPANCY : LIGHT, occupancy ? 2 : 1 + below(g, 24));
+    if (chance(g, 15)) put_declaration(g, by, g->declared, COLOUR, 24);
+    else put_declaration(g, by, g->declared, occupancy ? OCCUPANCY : LIGHT, occupancy ? 2 : 1 + below(g, 24));
     if (chance(g, 60)) cut(g, start);
 }
 
