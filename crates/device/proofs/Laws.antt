@@ -1,9 +1,12 @@
 -- The laws of the device, for the crates above: what each change does to one instance, and what it keeps.
 -- Assumes nothing.
 use Prim.Native.Nat.{ℕ, _+_, _<_, _≤_}
+use Rattle.command.proofs.Laws.{dtr0-counted, dtr0-left}
+use Rattle.command.specs.Answering.{countedUp}
 use Rattle.device.specs.Device.{underWay, declaredModel, fresh, heldModel, instanceAt, known, offered, withDeclared, withDtr0, withInstance}
 use Rattle.device.specs.Frame.{actedAt, counts, frameLog, frameModel, loads, numberedLog, numberedModel}
 use Rattle.device.specs.declared.model.Model.{Model}
+use Rattle.opcode.specs.Meaning.{countsUp, meant}
 use Rattle.record.specs.Log.{Logged, bytesOf}
 use Rattle.sensor.proofs.Laws.{both}
 use Rattle.sensor.specs.Fresh as sensors
@@ -14,10 +17,10 @@ use borrow.Author.Tests.{le-leb, le-ltb, lt-leb, lt-ltb, ltb-true}
 use lib.Dec.{eqb, ltb}
 use lib.ListN.{getD, length, length-set}
 use lib.Seq.{getD-set-other, getD-set-same}
-use mathlib.Core.Bool.{Bool, cond, false, true, _||_}
+use mathlib.Core.Bool.{Bool, cond, false, true, _&&_, _||_}
 use mathlib.Core.List.{List, []}
 use mathlib.Core.Logic.{_≢_}
-use mathlib.Core.Path.{ap, refl, _≡_}
+use mathlib.Core.Path.{ap, refl, _≡_, _∙_}
 use native.Mathlib.Omega.{arith}
 
 -- ---- what logs
@@ -149,7 +152,7 @@ module _ (m : Model) (i opcode : ℕ) where
   unfolding numberedModel
   numbered-tick = refl
 
-  pub numbered-dtr0 : numberedModel m i opcode .dtr0 ≡ m .dtr0
+  pub numbered-dtr0 : numberedModel m i opcode .dtr0 ≡ actedAt m i opcode .dtr0
   unfolding numberedModel
   numbered-dtr0 = refl
 
@@ -223,14 +226,20 @@ module _ (m : Model) (first second third : ℕ) where
   unfolding numberedModel
   frame-last = frame-by (λ (x : Model). x .last ≡ m .last) refl refl refl
 
-  -- DTR0 is loaded by C1 30 d alone
-  pub frame-dtr0 : loads first second ≡ false → frameModel m first second third .dtr0 ≡ m .dtr0
-  unfolding frameModel numberedModel
-  frame-dtr0 l = rw l (go (counts m first second))
+  -- DTR0 is changed by C1 30 d, its load, and where a frame counts by what byte 3 leaves, which is another for the colour query alone (M-104)
+  pub frame-dtr0 : loads first second ≡ false → counts m first second && countsUp (meant (instanceAt m second .kind) third) ≡ false
+      → frameModel m first second third .dtr0 ≡ m .dtr0
+  frame-dtr0 l none = go (counts m first second) refl none
     where
-      go : (k : Bool) → cond k (numberedModel m second third) (underWay m) .dtr0 ≡ m .dtr0
-      go true = refl
-      go false = refl
+      go : (k : Bool) → counts m first second ≡ k → k && countsUp (meant (instanceAt m second .kind) third) ≡ false
+          → frameModel m first second third .dtr0 ≡ m .dtr0
+      go true c e = rw (frame-counts l c .0) (numbered-dtr0 m second third ∙ dtr0-left (instanceAt m second) third (m .dtr0) e)
+      go false c e = ap (λ (x : Model). x .dtr0) (frame-ignored l c .0)
+
+  -- which counts it up
+  pub frame-counted : loads first second ≡ false → counts m first second ≡ true → countsUp (meant (instanceAt m second .kind) third) ≡ true
+      → frameModel m first second third .dtr0 ≡ countedUp (m .dtr0)
+  frame-counted l c e = rw (frame-counts l c .0) (numbered-dtr0 m second third ∙ dtr0-counted (instanceAt m second) third (m .dtr0) e)
 
   pub frame-declared : frameModel m first second third .declared ≡ m .declared
   frame-declared = frame-by (λ (x : Model). x .declared ≡ m .declared) refl (numbered-declared m second third) refl

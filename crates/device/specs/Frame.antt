@@ -24,8 +24,12 @@ counts m first second = (eqb first 0x01 || eqb first 0xFF) && known m second
 abbrev pub actedAt : Model → (i opcode : ℕ) → Acted
 actedAt m i opcode = acted (instanceAt m i) opcode (m .dtr0)
 
+-- what byte 3 leaves is put back: the instance, and DTR0 (M-104)
+abbrev pub putBack : (i : ℕ) → Acted → Model → Model
+putBack i a m = withDtr0 (a .dtr0) (withInstance i (a .instance) m)
+
 unfoldable pub numberedModel : Model → (i opcode : ℕ) → Model
-numberedModel m i opcode = underWay (withInstance i (actedAt m i opcode .instance) m)
+numberedModel m i opcode = underWay (putBack i (actedAt m i opcode) m)
 
 -- the record of an answer
 unfoldable pub answerLog : (tick i : ℕ) → Answer → List Logged
