@@ -1,5 +1,6 @@
 // What a declaration declares: decided here, once, from its mark, its type and its resolution.
 use record::Mark;
+use sensor::Colour;
 use sensor::Light;
 use sensor::Occupancy;
 use sensor::Sensor;
@@ -23,7 +24,7 @@ pub fn declared_by(letters: u16, sensor_type: u8, resolution: u8) -> Declares
     }
 }
 
-// Type 3 with resolution 2, or type 4.
+// Type 3 with resolution 2, type 4, or type 5 with resolution 24.
 fn in_declares(sensor_type: u8, resolution: u8) -> Declares
     ensures { λ r. ⌜ r ≡ inDeclares «sensor_type» resolution ⌝ }
 {
@@ -32,6 +33,9 @@ fn in_declares(sensor_type: u8, resolution: u8) -> Declares
     }
     if (sensor_type == Light::TYPE) & light_has(resolution) {
         return Declares::One(Sensor::Light { resolution });
+    }
+    if (sensor_type == Colour::TYPE) & (resolution == Colour::RESOLUTION) {
+        return Declares::One(Sensor::Colour);
     }
     Declares::Nothing
 }

@@ -18,7 +18,11 @@ returns-2 c = rw (c .before .before .if1 .left, ← (c .before .light-has .ensur
 
 returns-3 : tie.Need-returns-3
 unfolding inDeclares
-returns-3 c = rw (c .before .before .if1 .left, ← (c .before .light-has .ensures), c .if2 .left)
+returns-3 c = rw (c .before .before .before .if1 .left, ← (c .before .before .light-has .ensures), c .before .if2 .left, c .if3 .taken)
+
+returns-4 : tie.Need-returns-4
+unfolding inDeclares
+returns-4 c = rw (c .before .before .before .if1 .left, ← (c .before .before .light-has .ensures), c .before .if2 .left, c .if3 .left)
 
 pub in-declares-spec : {M : Type 1} → statement M
-in-declares-spec = tie.close (tie.spec returns light-has-requires returns-2 returns-3)
+in-declares-spec = tie.close (tie.spec returns light-has-requires returns-2 returns-3 returns-4)
