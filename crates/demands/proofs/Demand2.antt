@@ -1,5 +1,5 @@
 -- DEMAND 2: "Values, answers, triggers, events and priorities are those of IEC 62386-303 and -304 as document 01 fixes them, tick for tick. A
--- command numbered to one instance changes no variable or timer of another."
+-- command numbered to one instance changes no variable or timer of another." M-104: "Demand 2 holds for type 5 with document 003 as the source."
 -- The values are the definitions that the functions' promises cite, in specs/ of sensor, opcode, command, device, ticks, judging and session,
 -- each with its section of document 01. Here: that a session is those definitions one after another, that a record which nothing refuses is
 -- taken, what each of them leaves alone, and which models are shut out.
@@ -7,20 +7,20 @@
 mod FourKinds
 mod FullSessionRead
 mod RecordTaken
-use Prim.Native.Nat.{ℕ, _+_, _≤_}
+use Prim.Native.Nat.{ℕ, _%_, _+_, _≤_}
 use Rattle.command.proofs.Laws.{acts-so, calm-keeps, changes-nothing, control-changes}
 use Rattle.command.proofs.Measured.{act-unread}
-use Rattle.command.specs.Answering.{ButLatch, acted}
+use Rattle.command.specs.Answering.{ButLatch, acted, countedUp, leaving}
 use Rattle.command.specs.Controlling.{ButControl}
 use Rattle.demands.proofs.Demand2.FourKinds.{front-known}
 use Rattle.demands.proofs.Demand2.FullSessionRead.{whole}
 use Rattle.demands.proofs.Demand2.RecordTaken.{taken-behind}
 use Rattle.demands.proofs.Shared.EventsInLog.{events-tick}
 use Rattle.demands.proofs.Shared.FullSession.{full, fullLog, numbers}
-use Rattle.demands.proofs.Shared.OneInstance.{dtr0-kept, frame-own, happen-tick, ticked-own}
+use Rattle.demands.proofs.Shared.OneInstance.{dtr0-counted, dtr0-kept, frame-own, happen-tick, ticked-own}
 use Rattle.demands.proofs.Shared.Runs.{session-log, session-model}
-use Rattle.demands.specs.Alone.{Present, loadsDtr0, rises}
-use Rattle.demands.specs.Happenings.{Happening, carried, happen, logAfter, modelAfter}
+use Rattle.demands.specs.Alone.{Present, asksColour, loadsDtr0, rises}
+use Rattle.demands.specs.Happenings.{Happening, carried, frame, happen, logAfter, modelAfter}
 use Rattle.demands.specs.Numbers.{Front, NoneGiven}
 use Rattle.demands.specs.Stands.{roomAfter}
 use Rattle.demands.specs.Window.{eventsOf}
@@ -44,7 +44,7 @@ use Rattle.ticks.proofs.Ticked.{tick-past}
 use Rattle.ticks.specs.Tick.{tickLog, tickModel}
 use Rattle.timers.specs.Pace.{noted}
 use lib.ListN.{length, take}
-use mathlib.Core.Bool.{Bool, false}
+use mathlib.Core.Bool.{Bool, false, true}
 use mathlib.Core.List.{List, [], _++_, _∷_}
 use mathlib.Core.Logic.{_≢_}
 use mathlib.Core.Path.{refl, _≡_}
@@ -110,12 +110,18 @@ module _ (m : Model) where
       frame-own (ButControl (instanceAt m second)) second m first second third (changes-nothing (instanceAt m second))
       (λ n q. rw (acts-so (instanceAt m second) third (m .dtr0) c e) (control-changes (instanceAt m second) c))
 
-  -- the tick number is changed by a tick alone, by 1, and DTR0 by its load alone
+  -- the tick number is changed by a tick alone, by 1, and DTR0 by its load and by 4B alone
   pub tick-number : (h : Happening) → happen m h .tick ≡ m .tick + rises h
   tick-number = happen-tick m
 
-  pub dtr0-alone : (h : Happening) → loadsDtr0 h ≡ false → happen m h .dtr0 ≡ m .dtr0
+  pub dtr0-alone : (h : Happening) → loadsDtr0 h ≡ false → asksColour m h ≡ false → happen m h .dtr0 ≡ m .dtr0
   dtr0-alone = dtr0-kept m
+
+  -- M-104: 4B, of an instance of type 5, counts it up by 1, from 255 to 0, with an answer or without. (Where its answer finds no room nothing is
+  -- changed: demand 1)
+  pub dtr0-counts : (first second third : ℕ) → asksColour m (frame first second third) ≡ true → frameModel m first second third .dtr0 ≡ (m .dtr0 + 1) % 256
+  unfolding countedUp
+  dtr0-counts = dtr0-counted m
 
   -- a tick is each declared instance's own: what becomes of it, and whether it sends, comes from itself alone
   pub tick-of-each : {i : ℕ} → Present i m
@@ -131,7 +137,7 @@ module _ (m : Model) where
 pub measured-unread : (x : Instance) (b : Bool)
     → (ticked (withMeasured b x) ≡ record { instance = withMeasured b (ticked x .instance); sent = ticked x .sent })
     × ((opcode dtr0 : ℕ) → acted (withMeasured b x) opcode dtr0
-    ≡ record { instance = withMeasured b (acted x opcode dtr0 .instance); answer = acted x opcode dtr0 .answer })
+    ≡ leaving (withMeasured b (acted x opcode dtr0 .instance)) (acted x opcode dtr0 .dtr0) (acted x opcode dtr0 .answer))
 measured-unread x b = (tick-unread x b, act-unread x b)
 
 -- ---- THE FOUR MODELS: "Demand 2 shuts out a model that refuses all, one that logs a fixed answer, one that does nothing, and one that works the

@@ -23,7 +23,8 @@ use Rattle.hours.specs.Table.{before, eventsIn, gapIn}
 use Rattle.record.specs.Log.{decoded}
 use Rattle.sensor.specs.Kind.{repeat, rules, units}
 use Rattle.sensor.specs.declared.instance.Instance.{Instance}
-use Rattle.sensor.specs.declared.kind.Kind.the-variants.{Light}
+use Rattle.sensor.specs.declared.colour.Colour as colours
+use Rattle.sensor.specs.declared.kind.Kind.the-variants.{Colour, Light}
 use Rattle.sensor.specs.declared.light.Light as lights
 use Rattle.sensor.specs.declared.sensors.Sensor.{Sensor}
 use Rattle.timers.proofs.Pace.{hour-255-255, hour-30-600}
@@ -83,6 +84,15 @@ module _ {m₀ : Model} {calls : List Call} {i : ℕ} (w : Window m₀ calls i) 
   hour-of-defaults k d r e =
       hour-30-600 (last (w .at)) (events (w .at) i)
       (subst (λ t. Paced 30 600 (last (w .at)) t (events (w .at) i)) e (rw (k, d, r) at demand-3))
+
+  -- M-104: "Demand 3 covers type 5 where its filter lets the report go out". Over an hour its defaults give 24 to 2,400
+  pub hour-of-colour : {c : colours.Colour} → x .kind ≡ Colour c → x .settings .deadtime ≡ 30 → x .settings .report ≡ 30 → n (w .at) ≡ 72000
+      → (24 ≤ length (events (w .at) i)) × (length (events (w .at) i) ≤ 2400)
+  unfolding deadTime reportTime rules units
+  hour-of-colour k d r e =
+      let paced : Paced 30 3000 (last (w .at)) 72000 (events (w .at) i) =
+      subst (λ t. Paced 30 3000 (last (w .at)) t (events (w .at) i)) e (rw (k, d, r) at demand-3) in
+      (paced .at-least, paced .at-most)
 
   -- "report 1 with deadtime 255 exactly 282"
   pub hour-of-282 : {l : lights.Light} → x .kind ≡ Light l → x .settings .deadtime ≡ 255 → x .settings .report ≡ 1 → n (w .at) ≡ 72000

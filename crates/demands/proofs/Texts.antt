@@ -20,6 +20,7 @@ use Rattle.widen.specs.Width.{inputValue}
 use lib.ListN.{length}
 use mathlib.Core.Bool.{true}
 use mathlib.Core.List.{List, _++_}
+use mathlib.Core.Logic.{_≢_}
 use mathlib.Core.Path.{refl, subst₂, sym, _≡_}
 
 -- the number that is compared
@@ -31,13 +32,13 @@ same-number = whole-padded
 pub same-read : (xs : List ℕ) (room : ℕ) {m m′ : Model} → Alike m m′ → Same (session m xs room) (session m′ xs room)
 same-read = session-alike
 
--- AS IN: behind records that are taken, whatever follows, LO may be written IN; both are refused alike, or log the same. (And so again with a
--- further one behind it)
-pub as-in : (ys zs : List ℕ) (i type r room : ℕ) → wholeBytes r ≡ true → session fresh ys room .number ≡ 0
+-- AS IN: behind records that are taken, whatever follows, LO may be written IN; both are refused alike, or log the same, but for type 5, which IN
+-- declares with resolution 24 (M-104) and LO does not. (And so again with a further one behind it)
+pub as-in : (ys zs : List ℕ) (i type r room : ℕ) → wholeBytes r ≡ true → type ≢ 5 → session fresh ys room .number ≡ 0
     → Same (session fresh (ys ++ (declaration LO i type r ++ zs)) room) (session fresh (ys ++ (declaration IN i type r ++ zs)) room)
-as-in ys zs i type r room whole taken =
+as-in ys zs i type r room whole other taken =
     subst₂ Same (sym (pieces fresh ys (declaration LO i type r ++ zs) room taken)) (sym (pieces fresh ys (declaration IN i type r ++ zs) room taken))
-    (same-behind (length ys) (session fresh ys room .log) (first-same r whole (session fresh ys room .model) i type zs left _))
+    (same-behind (length ys) (session fresh ys room .log) (first-same r whole (session fresh ys room .model) i type other zs left _))
   where
     left : AllInRange (session fresh ys room .model .instances)
     left = session-alike ys room {m = fresh} {m′ = fresh} (record { same = refl; range = fresh-range; range′ = fresh-range }) .models .range

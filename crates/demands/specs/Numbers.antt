@@ -1,4 +1,4 @@
--- Document 01, "Numbers given when a record is not taken", with M-106, M-107 and M-110: the table, each row as a condition on what is left of a session and on the model.
+-- Document 01, "Numbers given when a record is not taken", with M-104, M-106, M-107 and M-110: the table, each row as a condition on what is left of a session and on the model.
 -- Order: mark present (2), mark known (1), record whole (2), then the record's own numbers in rising order. And "Session and log records": the
 -- four kinds of a session's records.
 -- Assumes nothing.
@@ -15,8 +15,9 @@ use Rattle.record.specs.Marks as marks
 use Rattle.record.specs.Marks.{markSize}
 use Rattle.record.specs.Numbers.{byte, word}
 use Rattle.record.specs.declared.marks.Mark.the-variants.{Bus, Declaration, Measurement, Time}
+use Rattle.rgb.specs.Colour.{bValue, gValue, rValue}
 use Rattle.sensor.specs.declared.instance.Instance.{Instance}
-use Rattle.sensor.specs.declared.kind.Kind.the-variants.{Light, Movement, Occupancy}
+use Rattle.sensor.specs.declared.kind.Kind.the-variants.{Colour, Light, Movement, Occupancy}
 use Rattle.sensor.specs.declared.kind.Kind.{Kind}
 use Rattle.sensor.specs.declared.sensors.Sensor.the-variants as sensors
 use Rattle.sensor.specs.declared.sensors.Sensor.{Sensor}
@@ -62,6 +63,7 @@ Names rest sensors.Occupancy = IN rest × (byte rest 3 ≡ 3) × (byte rest 4 �
 Names rest (sensors.Light resolution) = IN rest × (byte rest 3 ≡ 4) × (byte rest 4 ≡ resolution) × (1 ≤ resolution) × (resolution ≤ 24)
 Names rest (sensors.LightOf2017 resolution) = LO rest × (byte rest 3 ≡ 4) × (byte rest 4 ≡ resolution) × (1 ≤ resolution) × (resolution ≤ 24)
 Names rest sensors.Movement = IM rest × (byte rest 3 ≡ 3) × (byte rest 4 ≡ 2)
+Names rest sensors.Colour = IN rest × (byte rest 3 ≡ 5) × (byte rest 4 ≡ 24)
 
 -- ---- the four kinds: the record at the front of `rest` by its mark, its size, and what it tells of
 pub data Front (rest : List ℕ) : (size : ℕ) → List Happening → Type 0 where
@@ -80,26 +82,32 @@ abbrev pub Late : List ℕ → Model → Type 0
 Late rest m = (m .running ≡ true) ⊎ (byte rest 2 ≢ m .declared)
 
 -- "IN number 16 or above; type not 3 or 4; type 3 with resolution not 2; type 4 with resolution outside 1 to 24"; M-107: "LO obeys refusals 3
--- and 4 as IN, any type but 4 being 4"; M-100: "IM counts as IN in refusals 3 and 4, any type but 3 being 4"
+-- and 4 as IN, any type but 4 being 4"; M-100: "IM counts as IN in refusals 3 and 4, any type but 3 being 4"; M-104: "type 5 with another
+-- resolution is 4", with IN, which has type 5 beside 3 and 4
 abbrev pub NoSensor : List ℕ → Type 0
 NoSensor rest =
     (16 ≤ byte rest 2)
-    ⊎ (IN rest × (byte rest 3 ≢ 3) × (byte rest 3 ≢ 4)) ⊎ (LO rest × (byte rest 3 ≢ 4)) ⊎ (IM rest × (byte rest 3 ≢ 3))
+    ⊎ (IN rest × (byte rest 3 ≢ 3) × (byte rest 3 ≢ 4) × (byte rest 3 ≢ 5)) ⊎ (LO rest × (byte rest 3 ≢ 4)) ⊎ (IM rest × (byte rest 3 ≢ 3))
     ⊎ ((byte rest 3 ≡ 3) × (byte rest 4 ≢ 2))
     ⊎ ((byte rest 3 ≡ 4) × ((byte rest 4 < 1) ⊎ (24 < byte rest 4)))
+    ⊎ ((byte rest 3 ≡ 5) × (byte rest 4 ≢ 24))
 
 -- an instance that is declared; there are at most sixteen
 abbrev pub Declared : Model → (i : ℕ) → Type 0
 Declared m i = (i < m .declared) × (i < 16)
 
 -- "Sample status: 0 valid, 1 not ready (type 4 only), 2 physical failure. Light value with status 0: 0 to 2^resolution - 2. Occupancy: 0 to 3.
--- With status 1 or 2 the value must be 0." And M-100: "bit 1 of a movement sample is number 6"
+-- With status 1 or 2 the value must be 0." And M-100: "bit 1 of a movement sample is number 6"; M-104: "a channel of 255 is 6;
+-- status 1 is allowed"
 abbrev pub Allowed : Kind → Sample → Type 0
 Allowed (Light l) sample =
     ((sample .status ≡ 0) × (sample .value + 2 ≤ 2 ^ (l .resolution)))
     ⊎ ((sample .status ≡ 1) × (sample .value ≡ 0)) ⊎ ((sample .status ≡ 2) × (sample .value ≡ 0))
 Allowed (Occupancy o) sample = ((sample .status ≡ 0) × (sample .value ≤ 3)) ⊎ ((sample .status ≡ 2) × (sample .value ≡ 0))
 Allowed (Movement m) sample = ((sample .status ≡ 0) × (sample .value ≤ 1)) ⊎ ((sample .status ≡ 2) × (sample .value ≡ 0))
+Allowed (Colour c) sample =
+    ((sample .status ≡ 0) × ((rValue (sample .value) ≤ 254) × (gValue (sample .value) ≤ 254) × (bValue (sample .value) ≤ 254)))
+    ⊎ ((sample .status ≡ 1) × (sample .value ≡ 0)) ⊎ ((sample .status ≡ 2) × (sample .value ≡ 0))
 
 -- M-110: "status 1 after a valid sample .. a failure between or not"
 abbrev pub GoesBack : Instance → Sample → Type 0

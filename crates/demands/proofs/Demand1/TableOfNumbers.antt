@@ -20,17 +20,19 @@ use Rattle.record.specs.Marks.{markOf, markSize}
 use Rattle.record.specs.Numbers.{byte, word}
 use Rattle.record.specs.declared.marks.Mark.the-variants.{Bus, Declaration, Measurement, Time, Unknown}
 use Rattle.record.specs.declared.marks.Mark.{Mark}
+use Rattle.rgb.specs.Colour.{bValue, gValue, rValue}
+use Rattle.sensor.specs.Colour.{colourAllows}
 use Rattle.sensor.specs.Kind.{allows}
 use Rattle.sensor.specs.Light.{lightAllows}
 use Rattle.sensor.specs.Movement.{movementAllows}
 use Rattle.sensor.specs.Occupancy.{occupancyAllows}
 use Rattle.sensor.specs.Tick.{goesBack}
 use Rattle.sensor.specs.declared.instance.Instance.{Instance}
-use Rattle.sensor.specs.declared.kind.Kind.the-variants.{Light, Movement, Occupancy}
+use Rattle.sensor.specs.declared.kind.Kind.the-variants.{Colour, Light, Movement, Occupancy}
 use Rattle.sensor.specs.declared.kind.Kind.{Kind}
 use Rattle.sensor.specs.declared.settings.Sample.{Sample}
 use borrow.Author.Tests.{eq-eqb, eqb-false, eqb-true, le-ltb, lt-ltb, ltb-false, ltb-true, ne-eqb}
-use lib.Dec.{eqb, ltb}
+use lib.Dec.{eqb, leb, ltb}
 use lib.ListN.{length}
 use mathlib.Core.Bool.{Bool, cond, false, not, true, _&&_, _||_}
 use mathlib.Core.List.{List}
@@ -64,26 +66,41 @@ few-tells s most =
     from (inl (a, b)) = inl (a, omega arith)
     from (inr (a, b)) = inr (λ e. omega arith, (a, b))
 
-allows-tells : (k : Kind) (s : Sample) → Tells (allows k s) (Allowed k s)
-unfolding allows lightAllows movementAllows occupancyAllows
-allows-tells (Light l) s =
-    tells-as to from
-    (tells-cond (tells-eqb (s .status) 0) (tells-ltb (s .value) (2 ^ (l .resolution) - 1)) (tells-and (tells-leb (s .status) 2) (tells-eqb (s .value) 0)))
+-- what b tells with status 0, or 0 with status 1 or 2
+with-tells : {b : Bool} {P : Type 0} (s : Sample) → Tells b P
+    → Tells (cond (eqb (s .status) 0) b (leb (s .status) 2 && eqb (s .value) 0))
+    (((s .status ≡ 0) × P) ⊎ ((s .status ≡ 1) × (s .value ≡ 0)) ⊎ ((s .status ≡ 2) × (s .value ≡ 0)))
+with-tells {b} {P} s t = tells-as to from (tells-cond (tells-eqb (s .status) 0) t (tells-and (tells-leb (s .status) 2) (tells-eqb (s .value) 0)))
   where
-    one-or-two : Dec (s .status ≡ 1) → s .status ≢ 0 → s .status ≤ 2 → s .value ≡ 0 → Allowed (Light l) s
+    Either : Type 0
+    Either = ((s .status ≡ 0) × P) ⊎ ((s .status ≡ 1) × (s .value ≡ 0)) ⊎ ((s .status ≡ 2) × (s .value ≡ 0))
+
+    one-or-two : Dec (s .status ≡ 1) → s .status ≢ 0 → s .status ≤ 2 → s .value ≡ 0 → Either
     one-or-two (yes a) n le z = inr (inl (a, z))
     one-or-two (no a) n le z = inr (inr (omega arith, z))
 
-    to : ((s .status ≡ 0) × (s .value < 2 ^ (l .resolution) - 1)) ⊎ ((s .status ≢ 0) × ((s .status ≤ 2) × (s .value ≡ 0))) → Allowed (Light l) s
-    to (inl (a, b)) = inl (a, omega arith)
+    to : ((s .status ≡ 0) × P) ⊎ ((s .status ≢ 0) × ((s .status ≤ 2) × (s .value ≡ 0))) → Either
+    to (inl (a, p)) = inl (a, p)
     to (inr (a, (b, c))) = one-or-two (ℕ-discrete (s .status) 1) a b c
 
-    from : Allowed (Light l) s → ((s .status ≡ 0) × (s .value < 2 ^ (l .resolution) - 1)) ⊎ ((s .status ≢ 0) × ((s .status ≤ 2) × (s .value ≡ 0)))
-    from (inl (a, b)) = inl (a, omega arith)
+    from : Either → ((s .status ≡ 0) × P) ⊎ ((s .status ≢ 0) × ((s .status ≤ 2) × (s .value ≡ 0)))
+    from (inl (a, p)) = inl (a, p)
     from (inr (inl (a, b))) = inr (λ e. omega arith, (omega arith, b))
     from (inr (inr (a, b))) = inr (λ e. omega arith, (omega arith, b))
+
+-- M-104: a level up to 254
+level-tells : (n : ℕ) → Tells (ltb n 255) (n ≤ 254)
+level-tells n = tells-as (λ h. omega (arith, h)) (λ h. omega (arith, h)) (tells-ltb n 255)
+
+allows-tells : (k : Kind) (s : Sample) → Tells (allows k s) (Allowed k s)
+unfolding allows colourAllows lightAllows movementAllows occupancyAllows
+allows-tells (Light l) s = with-tells s (tells-as (λ h. omega (arith, h)) (λ h. omega (arith, h)) (tells-ltb (s .value) (2 ^ (l .resolution) - 1)))
 allows-tells (Occupancy o) s = few-tells s 3
 allows-tells (Movement m) s = few-tells s 1
+allows-tells (Colour c) s =
+    with-tells s
+    (tells-as (λ h. (h .0 .0, h .0 .1, h .1)) (λ h. ((h .0, h .1), h .2))
+    (tells-and (tells-and (level-tells (rValue (s .value))) (level-tells (gValue (s .value)))) (level-tells (bValue (s .value)))))
 
 allowed-tells : (m : Model) (i : ℕ) (s : Sample) → Declared m i → Tells (allowed m i s) (Allowed (instanceAt m i .kind) s)
 unfolding allowed

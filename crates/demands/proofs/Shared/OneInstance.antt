@@ -1,25 +1,28 @@
 -- What each happening does to the device and to one instance of it: the laws of the device, over happenings.
 -- Assumes nothing.
 use Prim.Native.Nat.{ℕ, _+_, _≤_}
-use Rattle.command.specs.Answering.{acted}
-use Rattle.demands.specs.Alone.{Present, loadsDtr0, rises}
+use Rattle.command.specs.Answering.{acted, countedUp}
+use Rattle.demands.specs.Alone.{Present, asksColour, loadsDtr0, rises}
 use Rattle.demands.specs.Happenings.{Happening, declare, frame, happen, hold, modelAfter, tick}
 use Rattle.demands.specs.Window.{setsIt}
 use Rattle.device.proofs.Instances.{declared-more, held-at, numbered-by}
-use Rattle.device.proofs.Laws.{declared-dtr0, declared-last, declared-length, declared-tick, frame-declared, frame-counts, frame-dtr0, frame-ignored, frame-last, frame-length, frame-loads, frame-tick, held-declared, held-length, numbered-other}
+use Rattle.device.proofs.Laws.{declared-dtr0, declared-last, declared-length, declared-tick, frame-counted, frame-counts, frame-declared, frame-dtr0, frame-ignored, frame-last, frame-length, frame-loads, frame-tick, held-declared, held-length, numbered-other}
 use Rattle.device.specs.Device.{heldModel, instanceAt}
 use Rattle.device.specs.Frame.{counts, frameModel, loads, numberedModel}
 use Rattle.device.specs.declared.model.Model.{Model}
+use Rattle.opcode.proofs.Opcodes.{counts-up}
 use Rattle.opcode.specs.Meaning.{isSetting, meant}
+use Rattle.sensor.proofs.Laws.{both}
 use Rattle.sensor.specs.Tick.{holding, ticked}
 use Rattle.sensor.specs.declared.instance.Instance.{Instance}
 use Rattle.sensor.specs.declared.settings.Sample.{Sample}
 use Rattle.ticks.proofs.Laws.{tick-declared, tick-last, tick-length}
 use Rattle.ticks.proofs.Ticked.{tick-at}
 use Rattle.ticks.specs.Tick.{tickModel}
-use borrow.Author.Tests.{eq-eqb}
+use borrow.Author.Tests.{eq-eqb, eqb-true}
+use lib.Dec.{eqb}
 use lib.ListN.{length}
-use mathlib.Core.Bool.{Bool, false, true}
+use mathlib.Core.Bool.{Bool, false, false≢true, true, _&&_}
 use mathlib.Core.List.{List, [], _∷_}
 use mathlib.Core.Path.{refl, subst, sym, _∙_, _≡_}
 use native.Mathlib.Decide.{ℕ-discrete}
@@ -42,12 +45,26 @@ module _ (m : Model) where
   last-kept (frame first second third) = frame-last m first second third
   last-kept tick = tick-last m
 
-  pub dtr0-kept : (h : Happening) → loadsDtr0 h ≡ false → happen m h .dtr0 ≡ m .dtr0
+  pub dtr0-kept : (h : Happening) → loadsDtr0 h ≡ false → asksColour m h ≡ false → happen m h .dtr0 ≡ m .dtr0
   unfolding heldModel tickModel
-  dtr0-kept (declare sensor) e = declared-dtr0 m sensor
-  dtr0-kept (hold i sample) e = refl
-  dtr0-kept (frame first second third) e = frame-dtr0 m first second third e
-  dtr0-kept tick e = refl
+  dtr0-kept (declare sensor) e f = declared-dtr0 m sensor
+  dtr0-kept (hold i sample) e f = refl
+  dtr0-kept (frame first second third) e f = frame-dtr0 m first second third e (rw (counts-up (instanceAt m second .kind) third) f)
+  dtr0-kept tick e f = refl
+
+  -- M-104: the colour query counts it up; no load counts for an instance
+  counts-loads : (first second : ℕ) → counts m first second ≡ true → loads first second ≡ false
+  unfolding counts loads
+  counts-loads first second c = go (eqb first 0xC1) refl
+    where
+      go : (b : Bool) → eqb first 0xC1 ≡ b → b && eqb second 0x30 ≡ false
+      go true e = absurd (false≢true (rw (eqb-true first 0xC1 e) at c))
+      go false e = refl
+
+  pub dtr0-counted : (first second third : ℕ) → asksColour m (frame first second third) ≡ true → frameModel m first second third .dtr0 ≡ countedUp (m .dtr0)
+  dtr0-counted first second third e =
+      let p = both (counts m first second) _ e in
+      frame-counted m first second third (counts-loads first second (p .0)) (p .0) (rw (counts-up (instanceAt m second .kind) third) (p .1))
 
   pub happen-length : (h : Happening) → length (happen m h .instances) ≡ length (m .instances)
   happen-length (declare sensor) = declared-length m sensor

@@ -2,10 +2,10 @@
 -- Assumes nothing.
 use Prim.Native.Nat.{ℕ, zero, suc, _+_}
 use Rattle.command.proofs.Texts.{act-as, act-in-range}
-use Rattle.command.specs.Answering.{acted}
+use Rattle.command.specs.Answering.{acted, leaving}
 use Rattle.demands.specs.Texts.{Alike, AllInRange, modelAsIN}
 use Rattle.device.specs.Device.{allowed, declaredModel, fresh, heldModel, instanceAt, known, underWay, withDeclared, withDtr0, withInstance, withInstances, withTick}
-use Rattle.device.specs.Frame.{answerLog, counts, frameLog, frameModel, loads, numberedLog, numberedModel}
+use Rattle.device.specs.Frame.{answerLog, counts, frameLog, frameModel, loads, numberedLog, numberedModel, putBack}
 use Rattle.device.specs.declared.model.Model.{Model}
 use Rattle.sensor.proofs.Texts.{declared-in-range, hold-in-range, tick-as, tick-in-range}
 use Rattle.sensor.specs.Fresh as sensors
@@ -77,7 +77,7 @@ module _ (m : Model) where
 
   acted-as : (i opcode : ℕ)
       → acted (instanceAt (modelAsIN m) i) opcode (m .dtr0)
-      ≡ record { instance = asIN (acted (instanceAt m i) opcode (m .dtr0) .instance); answer = acted (instanceAt m i) opcode (m .dtr0) .answer }
+      ≡ leaving (asIN (acted (instanceAt m i) opcode (m .dtr0) .instance)) (acted (instanceAt m i) opcode (m .dtr0) .dtr0) (acted (instanceAt m i) opcode (m .dtr0) .answer)
   acted-as i opcode = ap (λ x. acted x opcode (m .dtr0)) (at-as i) ∙ act-as (instanceAt m i) opcode (m .dtr0)
 
   frame-log-as : (first second third : ℕ) → frameLog (modelAsIN m) first second third ≡ frameLog m first second third
@@ -91,8 +91,8 @@ module _ (m : Model) where
     where
       number : numberedModel (modelAsIN m) second third ≡ modelAsIN (numberedModel m second third)
       number =
-          ap (λ a. underWay (withInstance second (a .instance) (modelAsIN m))) (acted-as second third)
-          ∙ ap (λ xs. underWay (withInstances xs m)) (set-as (m .instances) second (acted (instanceAt m second) third (m .dtr0) .instance))
+          ap (λ a. underWay (putBack second a (modelAsIN m))) (acted-as second third)
+          ∙ ap (λ xs. underWay (withDtr0 (acted (instanceAt m second) third (m .dtr0) .dtr0) (withInstances xs m))) (set-as (m .instances) second (acted (instanceAt m second) third (m .dtr0) .instance))
 
       go : (a b : Bool)
           → cond a (underWay (withDtr0 third (modelAsIN m))) (cond b (numberedModel (modelAsIN m) second third) (underWay (modelAsIN m)))

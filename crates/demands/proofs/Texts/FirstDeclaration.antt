@@ -31,7 +31,7 @@ use lib.Dec.{eqb, ltb}
 use lib.ListN.{drop, length}
 use mathlib.Core.Bool.{Bool, cond, false, false≢true, not, true, _&&_, _||_}
 use mathlib.Core.List.{List, [], _++_}
-use mathlib.Core.Logic.{inl, inr}
+use mathlib.Core.Logic.{inl, inr, _≢_}
 use mathlib.Core.Path.{ap, refl, subst₂, sym, _∙_, _≡_}
 use native.Mathlib.Omega.{arith}
 
@@ -61,9 +61,10 @@ module _ (r : ℕ) (whole : wholeBytes r ≡ true) where
       go false e false f true g i = ne-eqb r 2 (λ z. omega (arith, eqb-true r 24 g))
       go false e false f false g i = absurd (false≢true i)
 
-  both-declare : (type : ℕ) → Both (sensorAsked (declaredBy LO type r)) (sensorAsked (declaredBy IN type r))
+  -- but for type 5, which IN declares with resolution 24 and LO does not (M-104)
+  both-declare : (type : ℕ) → type ≢ 5 → Both (sensorAsked (declaredBy LO type r)) (sensorAsked (declaredBy IN type r))
   unfolding declaredBy inDeclares loDeclares
-  both-declare type = rw not-two (go (eqb type 3) (eqb type 4 && lightHas r))
+  both-declare type other = rw (not-two, ne-eqb type 5 other) (go (eqb type 3) (eqb type 4 && lightHas r))
     where
       go : (a b : Bool)
           → Both (sensorAsked (cond b (One (LightOf2017 r)) Nothing)) (sensorAsked (cond (a && false) (One Occupancy) (cond b (One (Light r)) Nothing)))
@@ -72,7 +73,7 @@ module _ (r : ℕ) (whole : wholeBytes r ≡ true) where
       go false true = declare (LightOf2017 r) (Light r) (declared-as r whole)
       go false false = refuse NoSuchSensor
 
-  module _ (m : Model) (i type : ℕ) (zs : List ℕ) where
+  module _ (m : Model) (i type : ℕ) (other : type ≢ 5) (zs : List ℕ) where
     abbrev lo : List ℕ
     lo = declaration LO i type r ++ zs
 
@@ -91,7 +92,7 @@ module _ (r : ℕ) (whole : wholeBytes r ≡ true) where
             (cond a (Refused Cut) (cond b (Refused LateOrSkipped) (cond c (sensorAsked (declaredBy IN type r)) (Refused NoSuchSensor))))
         go true b c = refuse Cut
         go false true c = refuse LateOrSkipped
-        go false false true = both-declare type
+        go false false true = both-declare type other
         go false false false = refuse NoSuchSensor
 
     pub first-same : AllInRange (m .instances) → (room : ℕ) → Same (session m lo room) (session m in′ room)
