@@ -2,7 +2,7 @@
 -- Assumes nothing.
 use Prim.Native.Nat.{ℕ, _%_, _/_, _<_, _^_}
 use Rattle.rgb.specs.Annex.{parameters, wavelength}
-use Rattle.rgb.specs.Colour.{absoluteChange, apart, bValue, gValue, information, rValue, total}
+use Rattle.rgb.specs.Colour.{absoluteChange, apart, bValue, gValue, information, levels, rValue, total}
 use borrow.Author.Tests.{le-ltb}
 use lib.ListN.{length}
 use mathlib.Core.List.{[], _∷_}
@@ -18,6 +18,11 @@ table = refl
 -- a DTR0 behind the table has no parameter
 pub parameter-count : length parameters ≡ 15
 parameter-count = refl
+
+-- ---- Table 1: the levels of a colour, from its number
+pub table-1 : (r g b : ℕ) → r < 256 → g < 256 → b < 256
+    → (rValue (levels r g b) ≡ r) × (gValue (levels r g b) ≡ g) × (bValue (levels r g b) ≡ b)
+table-1 r g b h k l = (omega arith, omega arith, omega arith)
 
 -- ---- a colour has not changed from itself
 apart-none : (n : ℕ) → apart n n ≡ 0

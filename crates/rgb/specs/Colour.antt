@@ -14,6 +14,10 @@ gValue value = value / 256 % 256
 abbrev pub bValue : (value : ℕ) → ℕ
 bValue value = value / 65536 % 256
 
+-- the number of a colour, by its levels
+abbrev pub levels : (r g b : ℕ) → ℕ
+levels r g b = r + g * 256 + b * 65536
+
 -- an observed level: 0 to 254
 abbrev pub level : (n : ℕ) → Bool
 level n = ltb n 255
