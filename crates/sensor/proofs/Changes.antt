@@ -9,11 +9,10 @@ use Rattle.sensor.specs.Worked.{measurements, measuring, outcomes}
 use Rattle.sensor.specs.declared.colour.Colour.{Colour}
 use Rattle.sensor.specs.declared.settings.Sample.{Sample}
 use Rattle.sensor.specs.declared.settings.Settings.{Settings}
-use borrow.Author.Tests.{le-ltb, lt-ltb}
+use borrow.Author.Tests.{lt-ltb}
 use lib.Dec.{ltb}
 use mathlib.Core.Bool.{Bool, and-false, false, true, _&&_}
 use mathlib.Core.Path.{_≡_, refl}
-use native.Mathlib.Omega.{arith}
 
 -- THE WORKED EXAMPLE
 pub worked : measuring colourStart measurements ≡ outcomes
