@@ -3,6 +3,7 @@
 -- that of its functions, by name, in its own `Unique`; this page gathers them.
 -- Assumes nothing.
 pub use Rattle.widen.proofs.Unique as widen-unique
+pub use Rattle.rgb.proofs.Unique as rgb-unique
 pub use Rattle.timers.proofs.Unique as timers-unique
 pub use Rattle.record.proofs.Unique as record-unique
 pub use Rattle.compare.proofs.Unique as compare-unique

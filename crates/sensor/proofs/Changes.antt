@@ -20,7 +20,7 @@ unfolding absoluteChange apart colourCause colourSent colourTaken lightRepeat to
 worked = refl
 
 -- ---- at power-on
--- "the first non-zero value of inputValue shall cause the colour report event to be generated"
+-- the first value that is not black sends, by its change
 pub first-sends : (s : Settings) (value : ℕ) → lightRepeat s ≡ true → 0 < s .hysteresis → 0 < value → value < 2 ^ 24
     → colourCause (colourTaken colourStart (record { status = 0; value = value })) s ≡ true
 unfolding colourCause colourTaken
@@ -31,7 +31,7 @@ pub first-black : (s : Settings) → colourCause (colourTaken colourStart (recor
 unfolding colourCause colourTaken
 first-black s = rw (change-none 0) (and-false (lightRepeat s && ltb 0 (s .hysteresis)))
 
--- ---- "A value of zero for hysteresis shall lead to colour events based on Treport only" (9.5.4)
+-- ---- with hysteresis 0 the report alone sends (9.5.4)
 pub none-by-change : (c : Colour) (s : Settings) → s .hysteresis ≡ 0 → colourCause c s ≡ false
 unfolding colourCause lightRepeat
 none-by-change c s e = rw e (go (lightRepeat s) (ltb (c .band) (changeOf c)))

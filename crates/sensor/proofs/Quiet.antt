@@ -73,7 +73,7 @@ colour-stays c held e =
     let p = both _ _ e in
     let value = sym (eqb-true _ _ (p .0)) in
     let status = sym (eqb-true _ _ (p .1)) in
-    λ i. record { shown = record { status = status i; value = value i }; last = c .last; band = c .band }
+    λ i. colourTaken c (record { status = status i; value = value i })
 
 change-none : (x up down : ℕ) → change x x up down ≡ 0
 unfolding change
