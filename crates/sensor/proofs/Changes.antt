@@ -11,8 +11,8 @@ use Rattle.sensor.specs.declared.settings.Sample.{Sample}
 use Rattle.sensor.specs.declared.settings.Settings.{Settings}
 use borrow.Author.Tests.{lt-ltb}
 use lib.Dec.{ltb}
-use mathlib.Core.Bool.{Bool, and-false, false, true, _&&_}
-use mathlib.Core.Path.{_≡_, refl}
+use mathlib.Core.Bool.{Bool, and-false, cond, false, true, _&&_}
+use mathlib.Core.Path.{_≡_, ap, refl}
 
 -- THE WORKED EXAMPLE
 pub worked : measuring colourStart measurements ≡ outcomes
@@ -44,7 +44,7 @@ none-by-change c s e = rw e (go (lightRepeat s) (ltb (c .band) (changeOf c)))
 -- one that the change is no cause of, a report inside the band or with hysteresis 0, leaves the last colour and the band
 pub report-leaves : (c : Colour) (s : Settings) → colourCause c s ≡ false → colourSent c s ≡ c
 unfolding colourSent
-report-leaves c s e = rw e
+report-leaves c s e = ap (λ b. cond b (recalculated c s) c) e
 
 -- one that it is a cause of recalculates them, and then there is no change
 pub change-renews : (c : Colour) (s : Settings) → colourCause c s ≡ true → (colourSent c s ≡ recalculated c s) × (changeOf (colourSent c s) ≡ 0)
