@@ -14,12 +14,13 @@ use Rattle.opcode.specs.declared.Query.the-variants.{QueryColourSensor, QueryNe
 use Rattle.opcode.specs.declared.Query.{Query}
 use Rattle.opcode.specs.declared.Variable.the-variants.{Catching, Deadtime, Enabled, Error, Filter, Hold, Hysteresis, HysteresisMin, Priority, Report, Resolution, SensorType, Status}
 use Rattle.opcode.specs.declared.Variable.{Variable}
-use Rattle.rgb.specs.Annex.{parameter}
+use Rattle.rgb.specs.Annex.{parameter, parameters}
 use Rattle.sensor.specs.Instance.{withLatch}
 use Rattle.sensor.specs.Kind.{catching, input, resolution, sensorType}
 use Rattle.sensor.specs.declared.instance.Instance.{Instance}
 use Rattle.widen.specs.Width.{inputBytes}
 use lib.Dec.{eqb, ltb}
+use lib.ListN.{length}
 use mathlib.Core.Bool.{Bool, cond}
 use mathlib.Core.Path.{_≡_}
 
@@ -71,9 +72,9 @@ answered x l dtr0 = leaving (withLatch (l .latch) x) dtr0 (l .answer)
 unfoldable pub countedUp : (dtr0 : ℕ) → ℕ
 countedUp dtr0 = (dtr0 + 1) % 256
 
--- there are 15 parameters; a DTR0 behind them has no answer
+-- a DTR0 behind the table has no answer
 unfoldable pub colourAnswer : (dtr0 : ℕ) → Answer
-colourAnswer dtr0 = onlyIf (ltb dtr0 15) (parameter dtr0)
+colourAnswer dtr0 = onlyIf (ltb dtr0 (length parameters)) (parameter dtr0)
 
 -- ---- a query changes nothing but the latch: 8C latches inputValue and answers its top byte, 8D answers the next; and but for DTR0, which 4B counts up
 unfoldable pub queried : Instance → Query → (dtr0 : ℕ) → Acted

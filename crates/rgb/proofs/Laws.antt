@@ -4,7 +4,6 @@ use Prim.Native.Nat.{ℕ, _%_, _/_, _<_, _^_}
 use Rattle.rgb.specs.Annex.{parameters, wavelength}
 use Rattle.rgb.specs.Colour.{absoluteChange, apart, bValue, gValue, information, levels, rValue, total}
 use borrow.Author.Tests.{le-ltb}
-use lib.ListN.{length}
 use mathlib.Core.List.{[], _∷_}
 use mathlib.Core.Path.{refl, _≡_}
 use native.Mathlib.Nat.{mod-eq-of-lt}
@@ -14,10 +13,6 @@ use native.Mathlib.Omega.{arith}
 pub table : parameters ≡ 187 ∷ 175 ∷ 162 ∷ 137 ∷ 125 ∷ 100 ∷ 112 ∷ 87 ∷ 75 ∷ 1 ∷ 84 ∷ 1 ∷ 104 ∷ 0 ∷ 200 ∷ []
 unfolding wavelength
 table = refl
-
--- a DTR0 behind the table has no parameter
-pub parameter-count : length parameters ≡ 15
-parameter-count = refl
 
 -- ---- Table 1: the levels of a colour, from its number
 pub table-1 : (r g b : ℕ) → r < 256 → g < 256 → b < 256
