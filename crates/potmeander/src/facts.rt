@@ -51,6 +51,7 @@ fn other_make(kind: Kind) -> u64 {
         Kind::Light(light) => padded(light),
         Kind::Occupancy(_) => 0,
         Kind::Movement(_) => 1,
+        Kind::Colour(_) => 0,
     }
 }
 
