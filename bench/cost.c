@@ -1,12 +1,14 @@
 /* One run whose cost is measured from outside.
- *   cost first|table|second INSTANCES quiet|sampled|busy|presence|movement TICKS
+ *   cost first|table|second INSTANCES quiet|sampled|busy|presence|movement|colour TICKS
  * first is the proved library, table the same with the hour table, second the plain C implementation. In the first three loads all instances are light with
  * resolution 16.
  * quiet: one sample, and then ticks alone, at the default settings: a report every 600 ticks.
  * sampled: the same, with a new sample for each instance every 20 ticks that stays inside the band.
  * busy: dead time 0, and at every tick a new sample for each instance, which sends an event.
  * presence, movement: occupancy of that make at the default settings. One instance after the other sees movement for 100 ticks, each every 28,800, and is
- * vacant 18,000 ticks after that: by its hold where it is movement-based, else by a sample. Both send the same events at the same ticks. */
+ * vacant 18,000 ticks after that: by its hold where it is movement-based, else by a sample. Both send the same events at the same ticks.
+ * colour: colour at the default settings. One instance after the other measures another colour for 100 ticks, each every 28,800, and sends at either change; between
+ * them each sends a report every 3,000. */
 #include "potmeander.h"
 #include "second/second.h"
 
@@ -16,8 +18,8 @@
 
 enum { LIGHT = 4, RESOLUTION = 16, REPORT = 600, IN_SIZE = 5, FR_SIZE = 5, SA_SIZE = 7, TK_SIZE = 4, EV_SIZE = 10, TK_MOST = 65535 };
 
-/* Ticks of one instance's turn, in which it sees movement at first; the turns of a round; so many turns later its hold ends. */
-enum { OCCUPANCY = 3, TURN = 1800, SEEN = 100, ROUND = 16, HELD = 10 };
+/* Ticks of one instance's turn, in which it sees movement, or another colour, at first; the turns of a round; so many turns later a hold ends. */
+enum { OCCUPANCY = 3, COLOUR = 5, TURN = 1800, SEEN = 100, ROUND = 16, HELD = 10 };
 
 /* How often there are samples (0: once), the two values' high bytes, and whether dead time is set to 0. */
 typedef struct {
@@ -92,6 +94,21 @@ static session make_occupancy(unsigned instances, bool movement, unsigned long t
     return s;
 }
 
+static session make_colour(unsigned instances, unsigned long ticks)
+{
+    unsigned long turns = ticks / TURN;
+    session s = {malloc(IN_SIZE * (size_t)instances + turns * (2 * SA_SIZE + 2 * TK_SIZE)), 0};
+    for (unsigned i = 0; i < instances; i++) PUT(&s, 'I', 'N', (uint8_t)i, COLOUR, 24);
+    for (unsigned long turn = 0; turn < turns; turn++) {
+        unsigned k = (unsigned)(turn % ROUND);
+        if (k < instances) PUT(&s, 'S', 'A', (uint8_t)k, 0, 120, 110, 70);
+        put_ticks(&s, SEEN);
+        if (k < instances) PUT(&s, 'S', 'A', (uint8_t)k, 0, 130, 98, 85);
+        put_ticks(&s, TURN - SEEN);
+    }
+    return s;
+}
+
 static const load *named(const char *name)
 {
     for (size_t i = 0; i < sizeof loads / sizeof *loads; i++)
@@ -103,14 +120,15 @@ int main(int argc, char **argv)
 {
     const load *l = argc == 5 ? named(argv[3]) : NULL;
     bool movement = argc == 5 && strcmp(argv[3], "movement") == 0, presence = argc == 5 && strcmp(argv[3], "presence") == 0;
+    bool colour = argc == 5 && strcmp(argv[3], "colour") == 0;
     unsigned long ticks = argc == 5 ? (unsigned long)strtoull(argv[4], NULL, 10) : 0;
-    if ((l == NULL && !movement && !presence) || ticks == 0) {
-        printf("usage: cost first|table|second INSTANCES quiet|sampled|busy|presence|movement TICKS\n");
+    if ((l == NULL && !movement && !presence && !colour) || ticks == 0) {
+        printf("usage: cost first|table|second INSTANCES quiet|sampled|busy|presence|movement|colour TICKS\n");
         return 2;
     }
     bool first = strcmp(argv[1], "first") == 0, table = strcmp(argv[1], "table") == 0;
     unsigned instances = (unsigned)strtoull(argv[2], NULL, 10);
-    session s = l != NULL ? make(instances, l, ticks) : make_occupancy(instances, movement, ticks);
+    session s = l != NULL ? make(instances, l, ticks) : colour ? make_colour(instances, ticks) : make_occupancy(instances, movement, ticks);
     bool busy = l != NULL && l->at_once;
     size_t log_len = (size_t)EV_SIZE * instances * (busy ? ticks + 2 : ticks / REPORT + 2); /* never short of room for a tick */
     uint8_t *log = malloc(log_len);

@@ -110,8 +110,8 @@ for hours in 8 48; do
     long ms timed 1000000 "$hours" quiet
     [ -z "$whole" ] || long 'thousand instructions' counted 1000 "$hours" quiet
 done
-# Occupancy of either make (M-100): the same events at the same ticks, by a hold timer and by samples.
-for load in presence movement; do
+# Occupancy of either make (M-100): the same events at the same ticks, by a hold timer and by samples. Colour (M-104): samples, and reports between.
+for load in presence movement colour; do
     long us timed 1000 48 "$load"
     [ -z "$whole" ] || long 'thousand instructions' counted 1000 48 "$load"
 done
