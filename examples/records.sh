@@ -2,10 +2,11 @@
 #   . examples/records.sh
 #   { IN 0 4 8 && SA 0 0 100 && TK 72000 && FR 01 00 8C; } >my.session
 #
-#   IN INSTANCE TYPE RESOLUTION    declares an instance: type 3, occupancy, with resolution 2; type 4, light, with 1 to 24
+#   IN INSTANCE TYPE RESOLUTION    declares an instance: type 3, occupancy, with resolution 2; type 4, light, with 1 to 24; type 5, colour, with 24
 #   LO INSTANCE TYPE RESOLUTION    declares a light instance built to the text of 2017: type 4, with 1 to 24
 #   IM INSTANCE TYPE RESOLUTION    declares a movement-based occupancy instance: type 3, with resolution 2
 #   SA INSTANCE STATUS VALUE       what it measures from now on: status 0 valid; 1 not ready and 2 failed, with value 0
+#   rgb INSTANCE RED GREEN BLUE    an SA of a colour instance with status 0, by its three levels: 0 to 254 is a colour
 #   FR BYTE1 BYTE2 BYTE3           a frame, its bytes in hexadecimal, as in the standards
 #   TK TICKS                       so many ticks of 50 ms, up to 4294967295: a record for each 65535 of them, and one for the rest
 #
@@ -54,6 +55,11 @@ IM() { record_declares IM "$@"; }
 SA() {
     record_fits "SA $*" $# 255 "${1-}" 255 "${2-}" 16777215 "${3-}" || return
     printf SA && record_bytes "$1" "$2" $(($3 / 65536)) $(($3 / 256 % 256)) $(($3 % 256))
+}
+
+rgb() {
+    record_fits "rgb $*" $# 255 "${1-}" 255 "${2-}" 255 "${3-}" 255 "${4-}" || return
+    SA "$1" 0 $(($4 * 65536 + $3 * 256 + $2))
 }
 
 FR() {

@@ -32,6 +32,8 @@ writes 4c4f0f0418 LO 15 4 24
 writes 494d0f0302 IM 15 3 2
 writes 5341000000fffe SA 0 0 65534
 writes 53410102ffffff SA 1 2 16777215
+writes 53410f00786e46 rgb 15 70 110 120
+writes 5341ff000100ff rgb 0xFF 0xff 0 1
 writes 4652010a8c FR 01 A 8c
 writes 4652c13007 FR 0xC1 0x30 0x07
 writes 544b0000 TK 0
@@ -52,6 +54,12 @@ refuses IM 0 3 256
 refuses SA 256 0 0
 refuses SA 0 0 16777216
 refuses SA 0 0 0x1000000
+refuses rgb 0 70 110
+refuses rgb 0 0 70 110 120
+refuses rgb 256 0 0 0
+refuses rgb 0 256 0 0
+refuses rgb 0 0 256 0
+refuses rgb 0 0 0 256
 refuses FR 01 00
 refuses FR 01 00 18C
 refuses FR 01 00 8G
@@ -63,4 +71,4 @@ refuses TK 010
 refuses TK 1.5
 refuses TK 4294967296
 refuses TK 18446744073709551617
-echo 'records by hand: 14 written, 22 refused'
+echo 'records by hand: 16 written, 28 refused'
