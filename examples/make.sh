@@ -7,7 +7,7 @@ here=$(cd "$(dirname "$0")" && pwd)
 . "$here/records.sh"
 cd "${1:-$here}"
 
-occupancy=3 light=4
+occupancy=3 light=4 colour=5
 valid=0 unready=1 failed=2
 vacant=0 still=2 moving=3  # an occupancy value: bit 0 movement, bit 1 occupied
 nothing=0 movement=1  # of a movement-based one: bit 0 alone
@@ -352,6 +352,179 @@ infrared() {
     infrared_ends
 }
 
+# ---- half an hour in a chamber, 36,000 ticks: instance 0 colour, instance 1 light of 8 bits, which has no reports. Colour starts with dead time 30, a report every
+# 3000 ticks, hysteresis 10 and hysteresisMin 12. Its levels are red, green and blue
+colour_begins() {
+    reached=0
+    IN 0 $colour 24
+    IN 1 $light 8
+    set_to 00 01 30
+    FR 01 00 80  # the type: 5,
+    FR 01 00 81  # and the resolution: 24
+    for query in 4E 4D 4F 4C; do FR 01 00 $query; done  # report, deadtime, hysteresis, hysteresisMin
+    for query in 8C 8D 8D 8D; do FR 01 00 $query; done  # not ready: three bytes of all ones, and no fourth
+
+    # black: at tick 1 light sends, for it has no band; of colour the change, 0, is not above the band, 0. A report at tick 3000
+    rgb 0 0 0 0
+    SA 1 $valid 0
+    up_to 1
+    FR 01 00 8C
+    up_to 3600
+
+    # the darkest blue: change 1, above 0. The band is hysteresisMin, 12
+    rgb 0 0 0 1
+    up_to 4200
+}
+
+# IEC 62386-305, 9.4.5, the example
+colour_example() {
+    # change 299, above 12: band 30
+    rgb 0 70 110 120
+    SA 1 $valid 100
+    up_to 4800
+    for query in 8C 8D 8D 8D; do FR 01 00 $query; done  # 120, 110, 70, and no fourth
+
+    # change 19, inside
+    rgb 0 80 106 125
+    up_to 5400
+
+    # change 37, above 30: band 31
+    rgb 0 85 98 130
+    up_to 6000
+}
+
+colour_edges() {
+    # red alone: change 31, which is the band, and 32: band 34
+    rgb 0 116 98 130
+    up_to 6600
+    rgb 0 117 98 130
+    up_to 7200
+
+    # all three at once: change 12 + 12 + 10, which is the band, and one more: band 33
+    rgb 0 105 110 120
+    up_to 7800
+    rgb 0 105 110 119
+    up_to 8400
+}
+
+colour_reports() {
+    # change 26, inside. The report at 10801 leaves the band where it is
+    rgb 0 115 120 125
+    up_to 11400
+
+    # 11 from what was reported, but change 37, above 33: band 37
+    rgb 0 119 124 128
+    up_to 14400
+
+    # at 14401 a report is due too: the change is a cause, so that the priority is 4 and the band new, 39
+    rgb 0 200 150 40
+    up_to 15000
+}
+
+colour_fails() {
+    SA 0 $failed 0
+    SA 1 $failed 0
+    up_to 15100
+    FR 01 00 82  # its error byte
+    FR 01 00 83  # its status: failed and enabled
+    FR 01 00 8C  # its value is all ones
+    up_to 15600
+
+    # both measure what they did before: light has no band and sends, colour has kept its own and sends nothing before the report at 17401
+    rgb 0 200 150 40
+    SA 1 $valid 100
+    up_to 18000
+}
+
+colour_hysteresis() {
+    # none: change 464, and the report at 20401 alone, which makes no band
+    set_to 00 00 41
+    FR 01 00 4F
+    rgb 0 20 220 254
+    up_to 21000
+
+    # 26 is too much, and 10 lets the change be seen: band 49
+    set_to 1A 00 41
+    FR 01 00 4F
+    set_to 0A 00 41
+    FR 01 00 4F
+    up_to 21600
+}
+
+colour_settings() {
+    set_to 04 00 40  # a report every 400 ticks
+    FR 01 00 4E
+    set_to 64 00 42  # dead time 100
+    FR 01 00 4D
+    set_to 50 00 43  # a band of 80 at least
+    FR 01 00 4C
+    up_to 22200
+
+    # change 50, above 49: the band is 80 from here on
+    rgb 0 20 220 204
+    up_to 22250
+
+    # change 100, in dead time: sent at 22301. Reports at 22701, 23101 and 23501
+    rgb 0 120 220 204
+    up_to 23600
+    set_to 00 00 40  # no more
+    FR 01 00 4E
+    up_to 24000
+
+    # change 80, which is the band, and 81
+    rgb 0 120 220 124
+    up_to 24600
+    rgb 0 119 220 124
+    up_to 25200
+}
+
+colour_filtered() {
+    set_to 02 00 68  # a bit that colour does not have: no change
+    FR 01 00 90
+    set_to 00 00 68  # no events
+    FR 01 00 90
+    rgb 0 0 0 0
+    SA 1 $valid 0
+    up_to 25800
+    set_to 01 00 68  # at 25801 the change is there still
+    up_to 26400
+    set_to 1E 00 40  # reports again, from here on: at 29400
+    up_to 30000
+}
+
+colour_read_out() {
+    FR C1 30 00
+    for dtr0 in 0 1 2 3 4 5 6 7 8 9 10 11 12 13 14 15; do FR 01 00 4B; done  # 15 answers; none for DTR0 15
+    FR 01 01 4B  # light does not have it, and DTR0 stays 16:
+    FR 01 00 42  # dead time is set from it
+    FR 01 00 4D
+    FR C1 30 FF
+    FR 01 00 4B  # none for 255, and DTR0 is 0:
+    FR 01 00 4B  # the first answer again
+}
+
+colour_ends() {
+    # the report of 32400, and white
+    up_to 33000
+    rgb 0 254 254 254
+    SA 1 $valid 254
+    up_to 36000
+    for query in 8C 8D 8D; do FR 01 00 $query; done
+}
+
+colour() {
+    colour_begins
+    colour_example
+    colour_edges
+    colour_reports
+    colour_fails
+    colour_hysteresis
+    colour_settings
+    colour_filtered
+    colour_read_out
+    colour_ends
+}
+
 # ---- one session for each refusal
 refused_1() { IN 0 $light 8 && printf XX; }                      # no such mark
 refused_2() { IN 0 $light 8 && printf 'TK\000'; }                # a record cut short
@@ -359,9 +532,11 @@ refused_3() { IN 0 $light 8 && TK 1 && IN 1 $occupancy 2; }      # too late to d
 refused_4() { IN 0 $light 25; }                                  # light has 1 to 24 bits
 refused_4_lo() { LO 0 $occupancy 2; }                            # LO declares light alone
 refused_4_im() { IM 0 $light 8; }                                # IM declares occupancy alone
+refused_4_colour() { IN 0 $colour 8; }                           # colour has 24 bits
 refused_5() { IN 0 $light 8 && SA 1 $valid 100; }                # only instance 0 is there
 refused_6() { IN 0 $light 8 && SA 0 $valid 255; }                # 8 bits: 0 to 254
 refused_6_im() { IM 0 $occupancy 2 && SA 0 $valid $still; }      # it is told of movement alone
+refused_6_colour() { IN 0 $colour 24 && rgb 0 255 110 120; }     # a level is 0 to 254
 refused_7() { IN 0 $light 8 && SA 0 $valid 100 && TK 1 && TK 0; }  # no ticks; what came before is logged
 
 # to the last tick number that there is, which is 65,537 records; and one tick more
@@ -386,6 +561,17 @@ refused_13() {
     SA 0 $unready 0
 }
 
+# not ready before the first valid sample, black, and again after it
+refused_13_colour() {
+    IN 0 $colour 24
+    SA 0 $unready 0
+    TK 1
+    rgb 0 0 0 0
+    TK 1
+    FR 01 00 8C  # black is a value, and not all ones
+    SA 0 $unready 0
+}
+
 # to the last tick of the hour table, and one tick more: taken, but with --sheets refused by 10
 beyond() {
     IN 0 $light 8
@@ -399,7 +585,8 @@ beyond() {
 # A log whose ticks fall: the clock of a device that was set back.
 falls() { head -c 20 "$here/full.log" && head -c 10 "$here/full.log"; }
 
-for session in full hour morning beyond texts infrared refused_1 refused_2 refused_3 refused_4 refused_4_lo refused_4_im refused_5 refused_6 refused_6_im refused_7 refused_8 refused_13; do
+for session in full hour morning beyond texts infrared colour refused_1 refused_2 refused_3 refused_4 refused_4_lo refused_4_im refused_4_colour refused_5 \
+    refused_6 refused_6_im refused_6_colour refused_7 refused_8 refused_13 refused_13_colour; do
     $session >"$session.session"
 done
 compare_model >compare.model.session
