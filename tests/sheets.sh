@@ -228,6 +228,22 @@ for i in 0 4 8 12; do
 done >"$room/input"
 session 0 '16 records, 80 bytes read; 0 ticks; 0 bytes logged' '16 sheets of 1 hour'
 printed "$room/sheets" 16 1 -v of='a session' -v reached=0 -v types="${types%;}"
+# colour; all sixteen places by all that may be declared, the last colour
+cp examples/colour.session "$room/input"
+session 0 '135 records, 700 bytes read; 36000 ticks; 630 bytes logged' '2 sheets of 1 hour'
+printed "$room/sheets" 2 1 -v of='a session' -v reached=36000 -v types='colour, resolution 24;light, resolution 8'
+types=
+for i in 0 5 10; do
+    IM $i 3 2
+    IN $((i + 1)) 5 24
+    IN $((i + 2)) 4 $((i + 9))
+    IN $((i + 3)) 3 2
+    LO $((i + 4)) 4 $((i + 10))
+    types="${types}movement-based occupancy;colour, resolution 24;light, resolution $((i + 9));occupancy;light of the 2017 text, resolution $((i + 10));"
+done >"$room/input"
+IN 15 5 24 >>"$room/input"
+session 0 '16 records, 80 bytes read; 0 ticks; 0 bytes logged' '16 sheets of 1 hour'
+printed "$room/sheets" 16 1 -v of='a session' -v reached=0 -v types="${types}colour, resolution 24"
 # nothing declared; no tick; the last tick of the table, and one more
 : >"$room/input"
 call --sheets "$room/sheets"

@@ -8,7 +8,7 @@
 #include <stdlib.h>
 #include <string.h>
 
-enum { OCCUPANCY = 3, LIGHT = 4, INSTANCES = 16, RESOLUTION = 10, MIXED_RECORDS = 20000 };
+enum { OCCUPANCY = 3, LIGHT = 4, COLOUR = 5, INSTANCES = 16, RESOLUTION = 10, MIXED_RECORDS = 20000 };
 
 static uint8_t session[WHOLE_MAX];
 static size_t length;
@@ -22,12 +22,12 @@ static void put(const char *mark, const uint8_t *bytes, size_t count)
 
 static void declare(const char *mark, unsigned instance, uint8_t type)
 {
-    put(mark, (uint8_t[]){(uint8_t)instance, type, type == LIGHT ? RESOLUTION : 2}, 3);
+    put(mark, (uint8_t[]){(uint8_t)instance, type, type == LIGHT ? RESOLUTION : type == COLOUR ? 24 : 2}, 3);
 }
 
 static void sample(unsigned instance, unsigned value)
 {
-    put("SA", (uint8_t[]){(uint8_t)instance, 0, 0, (uint8_t)(value >> 8), (uint8_t)value}, 5);
+    put("SA", (uint8_t[]){(uint8_t)instance, 0, (uint8_t)(value >> 16), (uint8_t)(value >> 8), (uint8_t)value}, 5);
 }
 
 static void frame(uint8_t first, unsigned second, uint8_t third)
@@ -70,22 +70,38 @@ static unsigned below(unsigned n)
     return (unsigned)((z ^ z >> 31) >> 33) % n;
 }
 
-/* Of six instances one is presence-based, one movement-based, and four are light. */
+/* Of six instances one is presence-based, one movement-based, one colour, and three are light. */
 static void declare_mixed(unsigned instance)
 {
-    if (instance % 3 != 0) declare("IN", instance, LIGHT);
-    else declare(instance % 2 == 0 ? "IN" : "IM", instance, OCCUPANCY);
+    switch (instance % 6) {
+    case 0: declare("IN", instance, OCCUPANCY); break;
+    case 3: declare("IM", instance, OCCUPANCY); break;
+    case 5: declare("IN", instance, COLOUR); break;
+    default: declare("IN", instance, LIGHT); break;
+    }
+}
+
+static unsigned any_colour(void)
+{
+    unsigned blue = below(255), green = below(255), red = below(255);
+    return blue << 16 | green << 8 | red;
 }
 
 static unsigned any_value(unsigned instance)
 {
-    return below(instance % 3 != 0 ? 1023 : instance % 2 == 0 ? 4 : 2);
+    switch (instance % 6) {
+    case 0: return below(4);
+    case 3: return below(2);
+    case 5: return any_colour();
+    default: return below(1023);
+    }
 }
 
 static void mixed(uint64_t seed, uint64_t shift)
 {
     static const uint8_t opcodes[] = {0x20, 0x21, 0x22, 0x23, 0x24, 0x2C, 0x2D, 0x2E, 0x2F, 0x30, 0x31, 0x32,
-                                      0x3C, 0x3D, 0x3E, 0x3F, 0x62, 0x68, 0x80, 0x81, 0x83, 0x8C, 0x8D, 0x90};
+                                      0x3C, 0x3D, 0x3E, 0x3F, 0x40, 0x41, 0x42, 0x43, 0x4B, 0x4C, 0x4D, 0x4E,
+                                      0x4F, 0x62, 0x68, 0x80, 0x81, 0x83, 0x8C, 0x8D, 0x90};
     chance = seed;
     for (unsigned i = 0; i < INSTANCES; i++) declare_mixed(i);
     for (uint64_t i = 0; i < shift; i++) ticks(1);
