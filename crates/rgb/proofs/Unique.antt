@@ -1,17 +1,17 @@
 -- UNIQUENESS: any two results, with all that was lent, that satisfy an exported function's promise for the same arguments are equal. `Post` is
 -- the promise itself, as the checker reads the function's `ensures`.
 -- Assumes nothing.
+use Rattle.promise.specs.Unique.{Unique}
 use Rattle.rgb.proofs.absolute_change.Kinds as absolute-change-kinds
 use Rattle.rgb.proofs.absolute_change.Reads as absolute-change
-use Rattle.rgb.proofs.annex.parameter.Kinds as parameter-kinds
-use Rattle.rgb.proofs.annex.parameter.Reads as parameter
 use Rattle.rgb.proofs.information.Kinds as information-kinds
 use Rattle.rgb.proofs.information.Reads as information
 use Rattle.rgb.proofs.measurable.Kinds as measurable-kinds
 use Rattle.rgb.proofs.measurable.Reads as measurable
+use Rattle.rgb.proofs.parameter.Kinds as parameter-kinds
+use Rattle.rgb.proofs.parameter.Reads as parameter
 use Rattle.rgb.proofs.total.Kinds as total-kinds
 use Rattle.rgb.proofs.total.Reads as total
-use Rattle.promise.specs.Unique.{Unique}
 use mathlib.Core.Path.{sym, _∙_}
 
 pub measurable-unique : Unique 0 measurable-kinds.ps measurable-kinds.r measurable.Post
