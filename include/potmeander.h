@@ -9,7 +9,7 @@
  *
  * This page is the manual: 1 the archives, 2 a session, 3 frames, 4 when an event goes out, 5 a log, 6 an example, 7 the numbers, 8 the call
  * for a session, 9 the call for two logs, 10 the hour table. It says in short what is proved; the definitions decide (docs/TRUST.md, 1), and above them
- * document 01 with M-100, M-102, M-103, M-104, M-106, M-107 and M-110.
+ * document 01 with M-100, M-102, M-103, M-104, M-105, M-106, M-107 and M-110.
  *
  *
  * 1. THE ARCHIVES
@@ -54,7 +54,7 @@
  *       2  failure          0                          0                          0
  *     Before its first sample light and colour count as not ready, and occupancy as valid with value 0.
  *
- * FR  acts at once, on what the last tick left (part 3).
+ * FR  acts on what the last tick left: at once or, where it sets something, when it comes again (part 3).
  *
  * TK  lets ticks pass. The first tick of a session is number 1, the last that may be reached 4,294,967,295, or with the hour table in use
  *     (part 10) 3,456,000. More than 65,535 ticks are several records.
@@ -81,6 +81,11 @@
  *   cancel hold         -        -       24       no setting (part 4); movement-based alone
  * hysteresisMin of light starts as 2^resolution / 100, rounded down, and 255 at most. Filter bits of light and of colour: bit 0, its events, the
  * reports too. Of occupancy: bit 0 Occupied, 1 Vacant, 2 Repeat (its reports: off at the start), 3 Movement, 4 No movement.
+ *   What sets something, that is all of this table but catch movement and cancel hold, comes twice (M-105). The first frame of a pair is remembered, and
+ * does nothing else. It acts where the same frame, in all three bytes, is the next one and comes no more than 2 ticks later; then it is forgotten, so
+ * that a third is a first again. Any other frame that is taken drops the one that is remembered, also one that does nothing, and is a first itself
+ * where it sets something; so is the same frame that comes later. Samples, ticks and whatever is refused, a query by 9 too, leave it remembered.
+ * DTR0 is as it is when the second one comes.
  *   A new report or deadtime serves from the next start of its timer, but for these: report 0 stops the report timer at once, and a report
  * that was due no longer is; a report above 0 starts it at once where it was stopped; deadtime 0 ends a running dead time at once. A new hold serves
  * from the next start of the hold timer.

@@ -27,7 +27,7 @@ use Rattle.sensor.specs.declared.settings.Sample.{Sample}
 use Rattle.sensor.specs.declared.settings.Settings.{Settings}
 use mathlib.Core.Path.{ap, refl, _≡_}
 
-meant-as : (k : Kind) (opcode : ℕ) → meant (kindAsIN k) opcode ≡ meant k opcode
+pub meant-as : (k : Kind) (opcode : ℕ) → meant (kindAsIN k) opcode ≡ meant k opcode
 unfolding meant
 meant-as (Light l) opcode = refl
 meant-as (Occupancy o) opcode = refl

@@ -17,7 +17,7 @@ use Rattle.demands.proofs.Demand2.FullSessionRead.{whole}
 use Rattle.demands.proofs.Demand2.RecordTaken.{taken-behind}
 use Rattle.demands.proofs.Shared.EventsInLog.{events-tick}
 use Rattle.demands.proofs.Shared.FullSession.{full, fullLog, numbers}
-use Rattle.demands.proofs.Shared.OneInstance.{dtr0-counted, dtr0-kept, frame-own, happen-tick, ticked-own}
+use Rattle.demands.proofs.Shared.OneInstance.{counts-loads, dtr0-counted, dtr0-kept, frame-own, happen-tick, ticked-own}
 use Rattle.demands.proofs.Shared.Runs.{session-log, session-model}
 use Rattle.demands.specs.Alone.{Present, asksColour, loadsDtr0, rises}
 use Rattle.demands.specs.Happenings.{Happening, carried, frame, happen, logAfter, modelAfter}
@@ -25,9 +25,9 @@ use Rattle.demands.specs.Numbers.{Front, NoneGiven}
 use Rattle.demands.specs.Stands.{roomAfter}
 use Rattle.demands.specs.Window.{eventsOf}
 use Rattle.device.proofs.Instances.{alike}
-use Rattle.device.proofs.Laws.{declared-other, frame-ignored, frame-other, held-other}
+use Rattle.device.proofs.Laws.{declared-other, frame-answers, frame-first, frame-ignored, frame-loads, frame-other, held-other, numbered-silent}
 use Rattle.device.specs.Device.{declaredModel, fresh, heldModel, instanceAt, underWay, withDtr0}
-use Rattle.device.specs.Frame.{counts, frameLog, frameModel, loads}
+use Rattle.device.specs.Frame.{again, counts, forgetting, frameLog, frameModel, loads, remembering, sets}
 use Rattle.device.specs.declared.model.Model.{Model}
 use Rattle.opcode.specs.Meaning.{isControl, isSetting, meant}
 use Rattle.opcode.specs.declared.Control.{Control}
@@ -47,7 +47,7 @@ use lib.ListN.{length, take}
 use mathlib.Core.Bool.{Bool, false, true}
 use mathlib.Core.List.{List, [], _++_, _∷_}
 use mathlib.Core.Logic.{_≢_}
-use mathlib.Core.Path.{refl, _≡_}
+use mathlib.Core.Path.{refl, _∙_, _≡_}
 
 -- "tick for tick": model and log of a session are those of the declarations, samples, frames and ticks that it carried out, one after
 -- another; a TK of n ticks is n ticks, each of every declared instance
@@ -85,15 +85,23 @@ module _ (m : Model) where
   pub declaration-keeps-others : (sensor : Sensor) (j : ℕ) → j ≢ m .declared → instanceAt (declaredModel m sensor) j ≡ instanceAt m j
   declaration-keeps-others = declared-other m
 
-  -- "C1 30 d loads DTR0": and changes nothing else, but that declarations are over
-  pub load-alone : (d : ℕ) → frameModel m 0xC1 0x30 d ≡ underWay (withDtr0 d m)
-  unfolding frameModel loads
-  load-alone d = refl
+  -- "C1 30 d loads DTR0": and changes nothing else, but that declarations are over, and that no frame is remembered
+  pub load-alone : (d : ℕ) → frameModel m 0xC1 0x30 d ≡ forgetting (underWay (withDtr0 d m))
+  unfolding loads
+  load-alone d = frame-loads m 0xC1 0x30 d refl .0
 
-  -- "anything else is ignored: taken, no change, no answer": a frame that neither loads DTR0 nor counts
+  -- "anything else is ignored: taken, no change, no answer": a frame that neither loads DTR0 nor counts, but that no frame is remembered
   pub ignored-alone : (first second third : ℕ) → loads first second ≡ false → counts m first second ≡ false
-      → (frameModel m first second third ≡ underWay m) × (frameLog m first second third ≡ [])
+      → (frameModel m first second third ≡ forgetting (underWay m)) × (frameLog m first second third ≡ [])
   ignored-alone first second third l c = frame-ignored m first second third l c
+
+  -- M-105: "The first of a pair changes nothing but is remembered": a setting command that is no repeat changes no variable and no timer of any
+  -- instance, DTR0 neither, and is not answered
+  pub first-alone : (first second third : ℕ) → counts m first second ≡ true → sets m second third ≡ true → again m first second third ≡ false
+      → (frameModel m first second third ≡ remembering first second third (underWay m)) × (frameLog m first second third ≡ [])
+  first-alone first second third c s r =
+      let l = counts-loads m first second c in
+      (frame-first m first second third l c s r, frame-answers m first second third l c ∙ numbered-silent m second third s)
 
   -- a frame that means neither a setting command nor a control instruction to its instance (a query, or no opcode of its type) changes at most its
   -- latch

@@ -4,9 +4,8 @@ unfoldable pub use Rattle.hours.specs.Events.{between, eventsOf}
 use Prim.Native.Nat.{ℕ, _+_, _<_}
 use Rattle.demands.specs.Happenings.{Call, Happening, bytesWritten, carriedOut, declare, frame, happen, hold, modelAfter, tick, ticksIn}
 use Rattle.device.specs.Device.{instanceAt}
-use Rattle.device.specs.Frame.{counts}
+use Rattle.device.specs.Frame.{again, counts, sets}
 use Rattle.device.specs.declared.model.Model.{Model}
-use Rattle.opcode.specs.Meaning.{isSetting, meant}
 use Rattle.record.specs.Log.{decoded}
 use Rattle.sensor.specs.Kind.{repeat, rules}
 use Rattle.sensor.specs.Tick.{valid}
@@ -37,9 +36,10 @@ abbrev pub R : Instance → ℕ
 R x = reportTime (rulesOf x)
 
 -- ---- "its held sample valid at every tick, no setting command reaching it"
--- a frame that counts for instance i, and means a setting command to it
+-- a frame that counts for instance i, and means a setting command to it, as the repeat of the frame that the device remembers. M-105: "a pair counts
+-- as the setting command, at its second frame, wherever the first one lies"; where it lies the device does not ask (`Pairs` has that it is so)
 abbrev pub setsIt : (i : ℕ) → Model → (first second third : ℕ) → Bool
-setsIt i m first second third = (counts m first second && eqb second i) && isSetting (meant (instanceAt m i .kind) third)
+setsIt i m first second third = (counts m first second && eqb second i) && (again m first second third && sets m i third)
 
 abbrev pub Calm : (i : ℕ) → Model → Happening → Type 0
 Calm i m (declare sensor) = Unit {0}

@@ -53,7 +53,7 @@ numbered-by P m i opcode was acts = go (decLt i (length (m .instances)))
 -- M-110: no frame changes whether an instance has had a valid sample
 pub frame-measured : (m : Model) (first second third i : ℕ) → instanceAt (frameModel m first second third) i .measured ≡ instanceAt m i .measured
 unfolding instanceAt
-frame-measured m first second third i = frame-by m first second third (λ x. instanceAt x i .measured ≡ instanceAt m i .measured) refl (by (ℕ-discrete i second)) refl
+frame-measured m first second third i = frame-by m first second third (λ x. instanceAt x i .measured ≡ instanceAt m i .measured) refl (by (ℕ-discrete i second)) refl refl
   where
     by : Dec (i ≡ second) → instanceAt (numberedModel m second third) i .measured ≡ instanceAt m i .measured
     by (no other) = ap (λ x. x .measured) (numbered-other m second third i other)

@@ -1,11 +1,14 @@
 -- The laws of the device, for the crates above: what each change does to one instance, and what it keeps.
 -- Assumes nothing.
 use Prim.Native.Nat.{ℕ, _+_, _<_, _≤_}
-use Rattle.command.proofs.Laws.{dtr0-counted, dtr0-left}
+use Rattle.command.proofs.Laws.{dtr0-counted, dtr0-left, setting-silent}
 use Rattle.command.specs.Answering.{countedUp}
 use Rattle.device.specs.Device.{underWay, declaredModel, fresh, heldModel, instanceAt, known, offered, withDeclared, withDtr0, withInstance}
-use Rattle.device.specs.Frame.{actedAt, counts, frameLog, frameModel, loads, numberedLog, numberedModel}
+use Rattle.device.specs.Frame.{actedAt, again, answerLog, counts, forgetting, frameLog, frameModel, heeded, judged, loads, numberedLog, numberedModel, remembering, sets}
+use Rattle.device.specs.declared.judged.Judged.the-variants.{Acts, Load, Nobody, Sets}
+use Rattle.device.specs.declared.judged.Judged.{Judged}
 use Rattle.device.specs.declared.model.Model.{Model}
+use Rattle.opcode.proofs.Opcodes.{up-sets-nothing}
 use Rattle.opcode.specs.Meaning.{countsUp, meant}
 use Rattle.record.specs.Log.{Logged, bytesOf}
 use Rattle.sensor.proofs.Laws.{both}
@@ -186,45 +189,119 @@ pub counts-known : (m : Model) (first second : ℕ) → counts m first second �
 unfolding counts
 counts-known m first second k = both (eqb first 0x01 || eqb first 0xFF) (known m second) k .1
 
--- ---- FR: the three ways of a frame
-module _ (m : Model) (first second third : ℕ) where
-  pub frame-loads : loads first second ≡ true
-      → (frameModel m first second third ≡ underWay (withDtr0 third m)) × (frameLog m first second third ≡ [])
-  unfolding frameModel frameLog
-  frame-loads l = (rw l, rw l)
+-- ---- FR: how a frame is judged, and what it leaves
+-- a setting command answers nothing
+pub numbered-silent : (m : Model) (i opcode : ℕ) → sets m i opcode ≡ true → numberedLog m i opcode ≡ []
+unfolding numberedLog answerLog
+numbered-silent m i opcode s = ap (λ a. answerLog (m .tick) i a) (setting-silent (instanceAt m i) opcode (m .dtr0) s)
 
-  pub frame-counts : loads first second ≡ false → counts m first second ≡ true
-      → (frameModel m first second third ≡ numberedModel m second third) × (frameLog m first second third ≡ numberedLog m second third)
-  unfolding frameModel frameLog
-  frame-counts l k = (rw (l, k), rw (l, k))
+-- what each way of judging it tells
+abbrev pub Told : Model → (first second third : ℕ) → Judged → Type 0
+Told m first second third Load = loads first second ≡ true
+Told m first second third (Sets i) = (i ≡ second) × (loads first second ≡ false) × (counts m first second ≡ true) × (sets m second third ≡ true)
+Told m first second third (Acts i) = (i ≡ second) × (loads first second ≡ false) × (counts m first second ≡ true) × (sets m second third ≡ false)
+Told m first second third Nobody = (loads first second ≡ false) × (counts m first second ≡ false)
+
+module _ (m : Model) (first second third : ℕ) where
+  -- the four ways of a frame, and when it goes them
+  pub judged-by : (P : Judged → Type 0)
+      → (loads first second ≡ true → P Load)
+      → (loads first second ≡ false → counts m first second ≡ true → sets m second third ≡ true → P (Sets second))
+      → (loads first second ≡ false → counts m first second ≡ true → sets m second third ≡ false → P (Acts second))
+      → (loads first second ≡ false → counts m first second ≡ false → P Nobody)
+      → P (judged m first second third)
+  unfolding judged
+  judged-by P load set act nobody = go (loads first second) refl (counts m first second) refl (sets m second third) refl
+    where
+      go : (l : Bool) → loads first second ≡ l → (k : Bool) → counts m first second ≡ k → (s : Bool) → sets m second third ≡ s
+          → P (cond l Load (cond k (cond s (Sets second) (Acts second)) Nobody))
+      go true l k c s e = load l
+      go false l true c true e = set l c e
+      go false l true c false e = act l c e
+      go false l false c s e = nobody l c
+
+  pub judged-told : Told m first second third (judged m first second third)
+  judged-told = judged-by (Told m first second third) (λ l. l) (λ l c s. (refl, l, c, s)) (λ l c s. (refl, l, c, s)) (λ l c. (l, c))
+
+  -- what it leaves of the device
+  pub frame-by : (P : Model → Type 0)
+      → P (forgetting (underWay (withDtr0 third m))) → P (forgetting (numberedModel m second third))
+      → P (remembering first second third (underWay m)) → P (forgetting (underWay m))
+      → P (frameModel m first second third)
+  unfolding frameModel heeded
+  frame-by P load acts waits ignore = judged-by (λ j. P (heeded m first second third j)) (λ l. load) (λ l c s. go (again m first second third)) (λ l c s. acts) (λ l c. ignore)
+    where
+      go : (r : Bool) → P (cond r (forgetting (numberedModel m second third)) (remembering first second third (underWay m)))
+      go true = acts
+      go false = waits
+
+  pub frame-loads : loads first second ≡ true
+      → (frameModel m first second third ≡ forgetting (underWay (withDtr0 third m))) × (frameLog m first second third ≡ [])
+  unfolding frameModel frameLog judged heeded
+  frame-loads l = (ap (λ j. heeded m first second third j) (go l), rw l)
+    where
+      go : loads first second ≡ true → judged m first second third ≡ Load
+      go e = rw e
 
   pub frame-ignored : loads first second ≡ false → counts m first second ≡ false
-      → (frameModel m first second third ≡ underWay m) × (frameLog m first second third ≡ [])
-  unfolding frameModel frameLog
-  frame-ignored l k = (rw (l, k), rw (l, k))
+      → (frameModel m first second third ≡ forgetting (underWay m)) × (frameLog m first second third ≡ [])
+  unfolding frameModel frameLog judged heeded
+  frame-ignored l k = (ap (λ j. heeded m first second third j) go, rw (l, k))
+    where
+      go : judged m first second third ≡ Nobody
+      go = rw (l, k)
+
+  module _ (l : loads first second ≡ false) (k : counts m first second ≡ true) where
+    pub frame-answers : frameLog m first second third ≡ numberedLog m second third
+    unfolding frameLog
+    frame-answers = rw (l, k)
+
+    -- what is no setting command acts at once
+    pub frame-acts : sets m second third ≡ false → frameModel m first second third ≡ forgetting (numberedModel m second third)
+    unfolding frameModel judged heeded
+    frame-acts s = ap (λ j. heeded m first second third j) go
+      where
+        go : judged m first second third ≡ Acts second
+        go = rw (l, k, s)
+
+    -- M-105: a setting command acts at its repeat, and is remembered before
+    pub frame-sets : sets m second third ≡ true
+        → frameModel m first second third
+        ≡ cond (again m first second third) (forgetting (numberedModel m second third)) (remembering first second third (underWay m))
+    unfolding frameModel judged heeded
+    frame-sets s = ap (λ j. heeded m first second third j) go
+      where
+        go : judged m first second third ≡ Sets second
+        go = rw (l, k, s)
+
+    pub frame-repeats : sets m second third ≡ true → again m first second third ≡ true
+        → frameModel m first second third ≡ forgetting (numberedModel m second third)
+    frame-repeats s r = frame-sets s ∙ rw r
+
+    pub frame-first : sets m second third ≡ true → again m first second third ≡ false
+        → frameModel m first second third ≡ remembering first second third (underWay m)
+    frame-first s r = frame-sets s ∙ rw r
+
+    -- so what counts is as byte 3 leaves it, or only remembered
+    pub frame-counts : (P : Model → Type 0) → P (forgetting (numberedModel m second third)) → P (remembering first second third (underWay m))
+        → P (frameModel m first second third)
+    frame-counts P acts waits = go (sets m second third) refl (again m first second third) refl
+      where
+        go : (s : Bool) → sets m second third ≡ s → (r : Bool) → again m first second third ≡ r → P (frameModel m first second third)
+        go true s true r = rw (frame-repeats s r) acts
+        go true s false r = rw (frame-first s r) waits
+        go false s b r = rw (frame-acts s) acts
 
   -- it loads DTR0, which all instances share, whoever is declared
   pub frame-loaded : loads first second ≡ true → frameModel m first second third .dtr0 ≡ third
   frame-loaded l = ap (λ (x : Model). x .dtr0) (frame-loads l .0)
 
-  pub frame-by : (P : Model → Type 0)
-      → P (underWay (withDtr0 third m)) → P (numberedModel m second third) → P (underWay m)
-      → P (frameModel m first second third)
-  unfolding frameModel
-  frame-by P load numbered ignore = go (loads first second) (counts m first second)
-    where
-      go : (l k : Bool)
-          → P (cond l (underWay (withDtr0 third m)) (cond k (numberedModel m second third) (underWay m)))
-      go true k = load
-      go false true = numbered
-      go false false = ignore
-
   pub frame-tick : frameModel m first second third .tick ≡ m .tick
-  frame-tick = frame-by (λ (x : Model). x .tick ≡ m .tick) refl (numbered-tick m second third) refl
+  frame-tick = frame-by (λ (x : Model). x .tick ≡ m .tick) refl (numbered-tick m second third) refl refl
 
   pub frame-last : frameModel m first second third .last ≡ m .last
   unfolding numberedModel
-  frame-last = frame-by (λ (x : Model). x .last ≡ m .last) refl refl refl
+  frame-last = frame-by (λ (x : Model). x .last ≡ m .last) refl refl refl refl
 
   -- DTR0 is changed by C1 30 d, its load, and where a frame counts by what byte 3 leaves, which is another for the colour query alone (M-104)
   pub frame-dtr0 : loads first second ≡ false → counts m first second && countsUp (meant (instanceAt m second .kind) third) ≡ false
@@ -233,30 +310,29 @@ module _ (m : Model) (first second third : ℕ) where
     where
       go : (k : Bool) → counts m first second ≡ k → k && countsUp (meant (instanceAt m second .kind) third) ≡ false
           → frameModel m first second third .dtr0 ≡ m .dtr0
-      go true c e = rw (frame-counts l c .0) (numbered-dtr0 m second third ∙ dtr0-left (instanceAt m second) third (m .dtr0) e)
+      go true c e =
+          frame-counts l c (λ (x : Model). x .dtr0 ≡ m .dtr0)
+          (numbered-dtr0 m second third ∙ dtr0-left (instanceAt m second) third (m .dtr0) e) refl
       go false c e = ap (λ (x : Model). x .dtr0) (frame-ignored l c .0)
 
   -- which counts it up
   pub frame-counted : loads first second ≡ false → counts m first second ≡ true → countsUp (meant (instanceAt m second .kind) third) ≡ true
       → frameModel m first second third .dtr0 ≡ countedUp (m .dtr0)
-  frame-counted l c e = rw (frame-counts l c .0) (numbered-dtr0 m second third ∙ dtr0-counted (instanceAt m second) third (m .dtr0) e)
+  frame-counted l c e =
+      rw (frame-acts l c (up-sets-nothing (meant (instanceAt m second .kind) third) e))
+      (numbered-dtr0 m second third ∙ dtr0-counted (instanceAt m second) third (m .dtr0) e)
 
   pub frame-declared : frameModel m first second third .declared ≡ m .declared
-  frame-declared = frame-by (λ (x : Model). x .declared ≡ m .declared) refl (numbered-declared m second third) refl
+  frame-declared = frame-by (λ (x : Model). x .declared ≡ m .declared) refl (numbered-declared m second third) refl refl
 
   pub frame-running : frameModel m first second third .running ≡ true
-  frame-running = frame-by (λ (x : Model). x .running ≡ true) refl (numbered-running m second third) refl
+  frame-running = frame-by (λ (x : Model). x .running ≡ true) refl (numbered-running m second third) refl refl
 
   pub frame-length : length (frameModel m first second third .instances) ≡ length (m .instances)
-  frame-length = frame-by (λ (x : Model). length (x .instances) ≡ length (m .instances)) refl (numbered-length m second third) refl
-
-  -- the instance that a frame counts for is as byte 3 leaves it
-  pub frame-here : length (m .instances) ≡ 16 → loads first second ≡ false → counts m first second ≡ true
-      → instanceAt (frameModel m first second third) second ≡ actedAt m second third .instance
-  frame-here all l k = rw (frame-counts l k .0) (numbered-here m second third all (counts-known m first second k))
+  frame-length = frame-by (λ (x : Model). length (x .instances) ≡ length (m .instances)) refl (numbered-length m second third) refl refl
 
   -- no frame changes an instance but the one that byte 2 names
   pub frame-other : (j : ℕ) → j ≢ second → instanceAt (frameModel m first second third) j ≡ instanceAt m j
   unfolding instanceAt
   frame-other j ne =
-      frame-by (λ (x : Model). getD (x .instances) j sensors.blank ≡ getD (m .instances) j sensors.blank) refl (numbered-other m second third j ne) refl
+      frame-by (λ (x : Model). getD (x .instances) j sensors.blank ≡ getD (m .instances) j sensors.blank) refl (numbered-other m second third j ne) refl refl

@@ -10,6 +10,8 @@ use Rattle.device.proofs.fresh.Kinds as fresh-kinds
 use Rattle.device.proofs.fresh.Reads as fresh
 use Rattle.device.proofs.known.Kinds as known-kinds
 use Rattle.device.proofs.known.Reads as known
+use Rattle.device.proofs.pairs.Remembered.repeats.Kinds as Remembered-repeats-kinds
+use Rattle.device.proofs.pairs.Remembered.repeats.Reads as Remembered-repeats
 use Rattle.promise.specs.Unique.{Unique, UniqueLent}
 use mathlib.Core.List.{List}
 use mathlib.Core.Path.{sym, _∙_}
@@ -25,3 +27,6 @@ known-unique κs a x y s t p q = p ∙ sym q
 
 pub declare-unique : Unique 0 declare-kinds.ps declare-kinds.r declare.Post
 declare-unique κs a x y s t p q = p ∙ sym q
+
+pub Remembered-repeats-unique : Unique 0 Remembered-repeats-kinds.ps Remembered-repeats-kinds.r Remembered-repeats.Post
+Remembered-repeats-unique κs a x y s t p q = p ∙ sym q

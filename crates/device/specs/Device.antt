@@ -1,8 +1,10 @@
--- Document 01, "The bench model" and "Session and log records": the device, declarations and samples.
+-- Document 01, "The bench model" and "Session and log records", with M-105: the device, declarations and samples.
 -- Assumes nothing.
 use Prim.Native.Nat.{ℕ, _+_}
 use Rattle.device.specs.declared.model.Model.{Model}
 use Rattle.device.specs.declared.model.Offered.{Offered}
+use Rattle.device.specs.declared.pairs.Remembered.the-variants.{Nothing}
+use Rattle.device.specs.declared.pairs.Remembered.{Remembered}
 use Rattle.record.specs.Log.{Logged, bytesOf}
 use Rattle.sensor.specs.Fresh as sensors
 use Rattle.sensor.specs.Kind.{allows}
@@ -18,28 +20,32 @@ use mathlib.Core.List.{List}
 
 -- ---- the model with one part changed: only these list every part, and other definitions compose them
 abbrev pub withTick : ℕ → Model → Model
-withTick tick m = record { tick = tick; last = m .last; dtr0 = m .dtr0; declared = m .declared; running = m .running; instances = m .instances }
+withTick tick m = record { tick = tick; last = m .last; dtr0 = m .dtr0; declared = m .declared; running = m .running; remembered = m .remembered; instances = m .instances }
 
 -- M-106: the last tick that may be reached
 abbrev pub withLast : ℕ → Model → Model
-withLast last m = record { tick = m .tick; last = last; dtr0 = m .dtr0; declared = m .declared; running = m .running; instances = m .instances }
+withLast last m = record { tick = m .tick; last = last; dtr0 = m .dtr0; declared = m .declared; running = m .running; remembered = m .remembered; instances = m .instances }
 
 abbrev pub withDtr0 : ℕ → Model → Model
-withDtr0 dtr0 m = record { tick = m .tick; last = m .last; dtr0 = dtr0; declared = m .declared; running = m .running; instances = m .instances }
+withDtr0 dtr0 m = record { tick = m .tick; last = m .last; dtr0 = dtr0; declared = m .declared; running = m .running; remembered = m .remembered; instances = m .instances }
 
 abbrev pub withDeclared : ℕ → Model → Model
-withDeclared n m = record { tick = m .tick; last = m .last; dtr0 = m .dtr0; declared = n; running = m .running; instances = m .instances }
+withDeclared n m = record { tick = m .tick; last = m .last; dtr0 = m .dtr0; declared = n; running = m .running; remembered = m .remembered; instances = m .instances }
 
 abbrev pub withInstances : List Instance → Model → Model
-withInstances xs m = record { tick = m .tick; last = m .last; dtr0 = m .dtr0; declared = m .declared; running = m .running; instances = xs }
+withInstances xs m = record { tick = m .tick; last = m .last; dtr0 = m .dtr0; declared = m .declared; running = m .running; remembered = m .remembered; instances = xs }
 
 -- a record that is no declaration was taken, and declarations are over
 abbrev pub underWay : Model → Model
-underWay m = record { tick = m .tick; last = m .last; dtr0 = m .dtr0; declared = m .declared; running = true; instances = m .instances }
+underWay m = record { tick = m .tick; last = m .last; dtr0 = m .dtr0; declared = m .declared; running = true; remembered = m .remembered; instances = m .instances }
 
--- the model at the start: tick 0, any tick number may be reached, DTR0 0, no instance declared
+-- M-105: the first frame of a pair that is remembered, or nothing
+abbrev pub withRemembered : Remembered → Model → Model
+withRemembered first m = record { tick = m .tick; last = m .last; dtr0 = m .dtr0; declared = m .declared; running = m .running; remembered = first; instances = m .instances }
+
+-- the model at the start: tick 0, any tick number may be reached, DTR0 0, no instance declared, no frame remembered
 unfoldable pub fresh : Model
-fresh = record { tick = 0; last = 4294967295; dtr0 = 0; declared = 0; running = false; instances = replicate 16 (sensors.declared (Light 1)) }
+fresh = record { tick = 0; last = 4294967295; dtr0 = 0; declared = 0; running = false; remembered = Nothing; instances = replicate 16 (sensors.declared (Light 1)) }
 
 -- ---- who is declared
 unfoldable pub known : Model → (i : ℕ) → Bool

@@ -1,17 +1,19 @@
 // The device by value, and who is declared.
+use crate::pairs::Remembered;
 use sensor::Instance;
 use sensor::Sensor;
 ghost use Rattle.device.specs.Device.{declaredModel, fresh, known};
 ghost use mathlib.Core.Path.{_≡_};
 
 // running: a record that is no declaration was taken, and declarations are over. declared: how many instances are.
-// last: the last tick that may be reached (M-106).
+// last: the last tick that may be reached (M-106). remembered: the first frame of a pair (M-105).
 pub struct Model {
     pub tick: u32,
     pub last: u32,
     pub dtr0: u8,
     pub declared: u8,
     pub running: bool,
+    pub remembered: Remembered,
     pub instances: [Instance; 16],
 }
 
@@ -33,6 +35,7 @@ pub fn fresh() -> Model
         dtr0: 0,
         declared: 0,
         running: false,
+        remembered: Remembered::Nothing,
         instances: [nobody; 16],
     }
 }

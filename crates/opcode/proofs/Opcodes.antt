@@ -3,7 +3,7 @@
 -- Assumes nothing.
 use Prim.Native.Nat.{ℕ}
 use Rattle.opcode.specs.Meaning.{Case, colourCases, colourMeaning, countsUp, isSetting, lightCases, lightMeaning, meant, meantIn, movementCases, movementMeaning, occupancyCases, occupancyMeaning}
-use Rattle.opcode.specs.declared.Meaning.the-variants.{Ignored}
+use Rattle.opcode.specs.declared.Meaning.the-variants.{Act, Ask, Ignored, Set}
 use Rattle.opcode.specs.declared.Meaning.{Meaning}
 use Rattle.sensor.proofs.Table.{both, each, every}
 use Rattle.sensor.specs.Kind.{sensorType}
@@ -11,7 +11,7 @@ use Rattle.sensor.specs.declared.kind.Kind.the-variants.{Colour, Light, Movemen
 use Rattle.sensor.specs.declared.kind.Kind.{Kind}
 use borrow.Author.Tests.{eq-eqb, eqb-true}
 use lib.Dec.{T, eqb}
-use mathlib.Core.Bool.{Bool, cond, false, not, true, _&&_, _||_}
+use mathlib.Core.Bool.{Bool, cond, false, false≢true, not, true, _&&_, _||_}
 use mathlib.Core.List.{List, List·Memᴰ, List·Memᴰ·head, List·Memᴰ·not-nil, List·Memᴰ·tail, [], _∷_}
 use mathlib.Core.Logic.{_⊎_, inl, inr}
 use mathlib.Core.Path.{_≡_, ap, refl, subst, sym, _∙_}
@@ -149,3 +149,11 @@ counts-up (Colour c) n = by (eqb n 0x4B) refl
     by : (b : Bool) → eqb n 0x4B ≡ b → countsUp (colourMeaning n) ≡ b
     by true e = ap (λ k. countsUp (colourMeaning k)) (eqb-true n 0x4B e)
     by false e = counts-none colourCases tt n e
+
+-- and sets nothing
+pub up-sets-nothing : (m : Meaning) → countsUp m ≡ true → isSetting m ≡ false
+unfolding countsUp isSetting
+up-sets-nothing (Set command) e = absurd (false≢true e)
+up-sets-nothing (Act control) e = refl
+up-sets-nothing (Ask query) e = refl
+up-sets-nothing Ignored e = refl

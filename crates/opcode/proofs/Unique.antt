@@ -3,6 +3,8 @@
 -- Assumes nothing.
 use Rattle.opcode.proofs.colour_meaning.Kinds as colour-meaning-kinds
 use Rattle.opcode.proofs.colour_meaning.Reads as colour-meaning
+use Rattle.opcode.proofs.is_setting.Kinds as is-setting-kinds
+use Rattle.opcode.proofs.is_setting.Reads as is-setting
 use Rattle.opcode.proofs.light_meaning.Kinds as light-meaning-kinds
 use Rattle.opcode.proofs.light_meaning.Reads as light-meaning
 use Rattle.opcode.proofs.meant.Kinds as meant-kinds
@@ -28,3 +30,6 @@ colour-meaning-unique κs a x y s t p q = p ∙ sym q
 
 pub meant-unique : Unique 0 meant-kinds.ps meant-kinds.r meant.Post
 meant-unique κs a x y s t p q = p ∙ sym q
+
+pub is-setting-unique : Unique 0 is-setting-kinds.ps is-setting-kinds.r is-setting.Post
+is-setting-unique κs a x y s t p q = p ∙ sym q

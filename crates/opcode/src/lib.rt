@@ -5,7 +5,7 @@ use sensor::Kind;
 use sensor::Light;
 use sensor::Movement;
 use sensor::Occupancy;
-ghost use Rattle.opcode.specs.Meaning.{colourMeaning, lightMeaning, meant, movementMeaning, occupancyMeaning};
+ghost use Rattle.opcode.specs.Meaning.{colourMeaning, isSetting, lightMeaning, meant, movementMeaning, occupancyMeaning};
 ghost use mathlib.Core.Path.{_≡_};
 
 // The setting commands of all types. The proofs name those that an arm `_` takes in this order.
@@ -213,5 +213,17 @@ pub fn meant(kind: Kind, opcode: u8) -> Meaning
         Kind::Occupancy(_) => occupancy_meaning(opcode),
         Kind::Movement(_) => movement_meaning(opcode),
         Kind::Colour(_) => colour_meaning(opcode),
+    }
+}
+
+// A setting command, which needs its repeat (M-105).
+pub fn is_setting(meaning: Meaning) -> bool
+    ensures { λ r. ⌜ r ≡ isSetting meaning ⌝ }
+{
+    match meaning {
+        Meaning::Set(_) => true,
+        Meaning::Act(_) => false,
+        Meaning::Ask(_) => false,
+        Meaning::Ignored => false,
     }
 }

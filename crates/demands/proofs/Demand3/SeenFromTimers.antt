@@ -2,18 +2,18 @@
 -- Assumes nothing.
 use Prim.Native.Nat.{ℕ, suc, _+_}
 use Rattle.command.proofs.Laws.{calm-untimed}
-use Rattle.command.specs.Answering.{acted}
 use Rattle.demands.proofs.Shared.EventsInLog.{events-append, events-frame, events-tick}
-use Rattle.demands.proofs.Shared.OneInstance.{frame-own, happen-present, held-own, sets-none, ticked-own}
+use Rattle.demands.proofs.Shared.OneInstance.{first-half, frame-own, happen-present, held-own, sets-none, ticked-own}
 use Rattle.demands.specs.Alone.{Present}
 use Rattle.demands.specs.Happenings.{Happening, declare, frame, happen, hold, logAfter, logs, tick, ticksIn}
 use Rattle.demands.specs.Window.{Undisturbed, eventsOf, rulesOf, setsIt}
 use Rattle.device.proofs.Laws.{declared-other, declared-tick, frame-tick, held-other, held-tick}
 use Rattle.device.specs.Device.{heldModel, instanceAt}
-use Rattle.device.specs.Frame.{counts}
+use Rattle.device.specs.Frame.{again, counts, frameModel, sets}
 use Rattle.device.specs.declared.model.Model.{Model}
 use Rattle.record.specs.Log.{Logged}
 use Rattle.sensor.proofs.Laws.{decision-made, holding-keeps, rules-kept, sent-decided, ticked-timers}
+use Rattle.sensor.specs.Fresh.{blank}
 use Rattle.sensor.specs.Kind.{cause, rules}
 use Rattle.sensor.specs.Tick.{decisionAt, holding, takenKind, valid}
 use Rattle.sensor.specs.declared.instance.Instance.{Instance}
@@ -26,10 +26,10 @@ use Rattle.timers.specs.Timers.{fallen}
 use Rattle.timers.specs.declared.Decision.{Decision}
 use Rattle.timers.specs.declared.Rules.{Rules}
 use Rattle.timers.specs.declared.Timers.{Timers}
-use lib.ListN.{length}
+use lib.ListN.{getD, length}
 use mathlib.Core.Bool.{Bool, false, true}
 use mathlib.Core.List.{List, [], _++_, _∷_}
-use mathlib.Core.Path.{ap, ap₂, refl, _∙_, _≡_}
+use mathlib.Core.Path.{ap, ap₂, refl, subst, sym, _∙_, _≡_}
 use native.Mathlib.Decide.{ℕ-discrete}
 use native.Mathlib.Numerals.{add-one}
 use native.Mathlib.Omega.{arith}
@@ -71,13 +71,22 @@ quiet-hold i m j sample p = record { kept = go (ℕ-discrete i j); silent = refl
     go (no n) = same (held-other m j sample i n)
 
 quiet-frame : (i : ℕ) (m : Model) (a b c : ℕ) → setsIt i m a b c ≡ false → Quiet i m (frame a b c)
-quiet-frame i m a b c e = record { kept = frame-own (Same x) i m a b c (same refl) acts; silent = events-frame i m a b c; time = frame-tick m a b c }
+unfolding instanceAt
+quiet-frame i m a b c e = record { kept = go (again m a b c) refl (sets m b c) refl; silent = events-frame i m a b c; time = frame-tick m a b c }
   where
     x : Instance
     x = instanceAt m i
 
-    acts : counts m a b ≡ true → i ≡ b → Same x (acted x c (m .dtr0) .instance)
-    acts n q = let untimed = calm-untimed x c (m .dtr0) (sets-none i m a b c e n q) in record { rules = untimed .0; timers = untimed .1 }
+    acts : (counts m a b ≡ true → i ≡ b → sets m i c ≡ false) → Same x (instanceAt (frameModel m a b c) i)
+    acts calm =
+        frame-own (Same x) i m a b c (same refl)
+        (λ n q. let untimed = calm-untimed x c (m .dtr0) (calm n q) in record { rules = untimed .0; timers = untimed .1 })
+
+    -- a first half ends no window
+    go : (r : Bool) → again m a b c ≡ r → (s : Bool) → sets m b c ≡ s → Same x (instanceAt (frameModel m a b c) i)
+    go true r s t = acts (sets-none i m a b c e r)
+    go false r true t = same (ap (λ xs. getD xs i blank) (first-half m a b c t r))
+    go false r false t = acts (λ n q. subst (λ k. sets m k c ≡ false) (sym q) t)
 
 -- ---- a run, seen from the timers of instance i: n ticks, with some causes
 pub record Seen (i n : ℕ) (r : Rules) (t : Timers) (now : ℕ) (log : List Logged) : Type 0 where

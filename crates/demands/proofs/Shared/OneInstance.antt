@@ -6,12 +6,11 @@ use Rattle.demands.specs.Alone.{Present, asksColour, loadsDtr0, rises}
 use Rattle.demands.specs.Happenings.{Happening, declare, frame, happen, hold, modelAfter, tick}
 use Rattle.demands.specs.Window.{setsIt}
 use Rattle.device.proofs.Instances.{declared-more, held-at, numbered-by}
-use Rattle.device.proofs.Laws.{declared-dtr0, declared-last, declared-length, declared-tick, frame-counted, frame-counts, frame-declared, frame-dtr0, frame-ignored, frame-last, frame-length, frame-loads, frame-tick, held-declared, held-length, numbered-other}
+use Rattle.device.proofs.Laws.{declared-dtr0, declared-last, declared-length, declared-tick, frame-counted, frame-counts, frame-declared, frame-dtr0, frame-first, frame-ignored, frame-last, frame-length, frame-loads, frame-tick, held-declared, held-length, numbered-other}
 use Rattle.device.specs.Device.{heldModel, instanceAt}
-use Rattle.device.specs.Frame.{counts, frameModel, loads, numberedModel}
+use Rattle.device.specs.Frame.{again, counts, frameModel, loads, numberedModel, sets}
 use Rattle.device.specs.declared.model.Model.{Model}
 use Rattle.opcode.proofs.Opcodes.{counts-up}
-use Rattle.opcode.specs.Meaning.{isSetting, meant}
 use Rattle.sensor.proofs.Laws.{both}
 use Rattle.sensor.specs.Tick.{holding, ticked}
 use Rattle.sensor.specs.declared.instance.Instance.{Instance}
@@ -24,7 +23,7 @@ use lib.Dec.{eqb}
 use lib.ListN.{length}
 use mathlib.Core.Bool.{Bool, false, false≢true, true, _&&_}
 use mathlib.Core.List.{List, [], _∷_}
-use mathlib.Core.Path.{refl, subst, sym, _∙_, _≡_}
+use mathlib.Core.Path.{ap, refl, subst, sym, _∙_, _≡_}
 use native.Mathlib.Decide.{ℕ-discrete}
 use native.Mathlib.Nat.{add-zero}
 use native.Mathlib.Omega.{arith}
@@ -53,7 +52,7 @@ module _ (m : Model) where
   dtr0-kept tick e f = refl
 
   -- M-104: the colour query counts it up; no load counts for an instance
-  counts-loads : (first second : ℕ) → counts m first second ≡ true → loads first second ≡ false
+  pub counts-loads : (first second : ℕ) → counts m first second ≡ true → loads first second ≡ false
   unfolding counts loads
   counts-loads first second c = go (eqb first 0xC1) refl
     where
@@ -111,13 +110,23 @@ frame-own P i m first second third was acts = go (loads first second) refl (coun
 
     go : (l : Bool) → loads first second ≡ l → (c : Bool) → counts m first second ≡ c → P (instanceAt (frameModel m first second third) i)
     go true l c n = rw (frame-loads m first second third l .0) was
-    go false l true n = rw (frame-counts m first second third l n .0) (by n (ℕ-discrete i second))
+    go false l true n = frame-counts m first second third l n (λ x. P (instanceAt x i)) (by n (ℕ-discrete i second)) was
     go false l false n = rw (frame-ignored m first second third l n .0) was
 
--- one that sets nothing of instance i means no setting command to it, if it counts for it
-pub sets-none : (i : ℕ) (m : Model) (first second third : ℕ) → setsIt i m first second third ≡ false → counts m first second ≡ true → i ≡ second
-    → isSetting (meant (instanceAt m i .kind) third) ≡ false
-sets-none i m first second third e n q = rw (n, eq-eqb second i (sym q)) at e
+-- M-105: a first half leaves every instance as it was
+pub first-half : (m : Model) (first second third : ℕ) → sets m second third ≡ true → again m first second third ≡ false
+    → frameModel m first second third .instances ≡ m .instances
+first-half m first second third s r = go (loads first second) refl (counts m first second) refl
+  where
+    go : (l : Bool) → loads first second ≡ l → (c : Bool) → counts m first second ≡ c → frameModel m first second third .instances ≡ m .instances
+    go true l c n = ap (λ x. x .instances) (frame-loads m first second third l .0)
+    go false l true n = ap (λ x. x .instances) (frame-first m first second third l n s r)
+    go false l false n = ap (λ x. x .instances) (frame-ignored m first second third l n .0)
+
+-- a repeat that sets nothing of instance i means no setting command to it, if it counts for it
+pub sets-none : (i : ℕ) (m : Model) (first second third : ℕ) → setsIt i m first second third ≡ false → again m first second third ≡ true
+    → counts m first second ≡ true → i ≡ second → sets m i third ≡ false
+sets-none i m first second third e r n q = rw (n, eq-eqb second i (sym q), r) at e
 
 -- ---- a tick, of an instance that is there
 pub ticked-own : {i : ℕ} {m : Model} → Present i m → instanceAt (tickModel m) i ≡ ticked (instanceAt m i) .instance

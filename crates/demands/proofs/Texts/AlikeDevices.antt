@@ -1,12 +1,16 @@
 -- Two devices that differ in the text alone: a sample, a frame and a tick log the same, and leave such devices.
 -- Assumes nothing.
 use Prim.Native.Nat.{ℕ, zero, suc, _+_}
-use Rattle.command.proofs.Texts.{act-as, act-in-range}
+use Rattle.command.proofs.Texts.{act-as, act-in-range, meant-as}
 use Rattle.command.specs.Answering.{acted, leaving}
 use Rattle.demands.specs.Texts.{Alike, AllInRange, modelAsIN}
+use Rattle.device.proofs.Laws.{frame-by}
 use Rattle.device.specs.Device.{allowed, declaredModel, fresh, heldModel, instanceAt, known, underWay, withDeclared, withDtr0, withInstance, withInstances, withTick}
-use Rattle.device.specs.Frame.{answerLog, counts, frameLog, frameModel, loads, numberedLog, numberedModel, putBack}
+use Rattle.device.specs.Frame.{again, answerLog, counts, forgetting, frameLog, frameModel, heeded, judged, loads, numberedLog, numberedModel, putBack, remembering}
+use Rattle.device.specs.declared.judged.Judged.the-variants.{Acts, Load, Nobody, Sets}
+use Rattle.device.specs.declared.judged.Judged.{Judged}
 use Rattle.device.specs.declared.model.Model.{Model}
+use Rattle.opcode.specs.Meaning.{isSetting, meant}
 use Rattle.sensor.proofs.Texts.{declared-in-range, hold-in-range, tick-as, tick-in-range}
 use Rattle.sensor.specs.Fresh as sensors
 use Rattle.sensor.specs.Kind.{allows}
@@ -85,21 +89,32 @@ module _ (m : Model) where
   frame-log-as first second third =
       ap (λ a. cond (loads first second) [] (cond (counts m first second) (answerLog (m .tick) second (a .answer)) [])) (acted-as second third)
 
-  frame-as : (first second third : ℕ) → frameModel (modelAsIN m) first second third ≡ modelAsIN (frameModel m first second third)
-  unfolding frameModel numberedModel counts known
-  frame-as first second third = go (loads first second) (counts m first second)
-    where
-      number : numberedModel (modelAsIN m) second third ≡ modelAsIN (numberedModel m second third)
-      number =
-          ap (λ a. underWay (putBack second a (modelAsIN m))) (acted-as second third)
-          ∙ ap (λ xs. underWay (withDtr0 (acted (instanceAt m second) third (m .dtr0) .dtr0) (withInstances xs m))) (set-as (m .instances) second (acted (instanceAt m second) third (m .dtr0) .instance))
+  judged-as : (first second third : ℕ) → judged (modelAsIN m) first second third ≡ judged m first second third
+  unfolding judged counts known
+  judged-as first second third =
+      ap (λ b. cond (loads first second) Load (cond (counts m first second) (cond b (Sets second) (Acts second)) Nobody))
+      (ap (λ x. isSetting (meant (x .kind) third)) (at-as second) ∙ ap isSetting (meant-as (instanceAt m second .kind) third))
 
-      go : (a b : Bool)
-          → cond a (underWay (withDtr0 third (modelAsIN m))) (cond b (numberedModel (modelAsIN m) second third) (underWay (modelAsIN m)))
-          ≡ modelAsIN (cond a (underWay (withDtr0 third m)) (cond b (numberedModel m second third) (underWay m)))
-      go true b = refl
-      go false true = number
-      go false false = refl
+  frame-as : (first second third : ℕ) → frameModel (modelAsIN m) first second third ≡ modelAsIN (frameModel m first second third)
+  unfolding frameModel heeded numberedModel
+  frame-as first second third = ap (λ j. heeded (modelAsIN m) first second third j) (judged-as first second third) ∙ go (judged m first second third)
+    where
+      number : (i : ℕ) → numberedModel (modelAsIN m) i third ≡ modelAsIN (numberedModel m i third)
+      number i =
+          ap (λ a. underWay (putBack i a (modelAsIN m))) (acted-as i third)
+          ∙ ap (λ xs. underWay (withDtr0 (acted (instanceAt m i) third (m .dtr0) .dtr0) (withInstances xs m))) (set-as (m .instances) i (acted (instanceAt m i) third (m .dtr0) .instance))
+
+      pair : (i : ℕ) (b : Bool)
+          → cond b (forgetting (numberedModel (modelAsIN m) i third)) (remembering first second third (underWay (modelAsIN m)))
+          ≡ modelAsIN (cond b (forgetting (numberedModel m i third)) (remembering first second third (underWay m)))
+      pair i true = ap forgetting (number i)
+      pair i false = refl
+
+      go : (j : Judged) → heeded (modelAsIN m) first second third j ≡ modelAsIN (heeded m first second third j)
+      go Load = refl
+      go (Sets i) = pair i (again m first second third)
+      go (Acts i) = ap forgetting (number i)
+      go Nobody = refl
 
   held-as : (i : ℕ) (sample : Sample) → heldModel (modelAsIN m) i sample ≡ modelAsIN (heldModel m i sample)
   unfolding heldModel holding
@@ -130,13 +145,10 @@ module _ (m : Model) where
     ticked-as = ap (λ xs. underWay (withTick (m .tick + 1) (withInstances xs m))) (sweep-as (m .declared) (m .instances) a)
 
     frame-range : (first second third : ℕ) → AllInRange (frameModel m first second third .instances)
-    unfolding frameModel numberedModel instanceAt
-    frame-range first second third = go (loads first second) (counts m first second)
-      where
-        go : (b c : Bool) → AllInRange (cond b (underWay (withDtr0 third m)) (cond c (numberedModel m second third) (underWay m)) .instances)
-        go true c = a
-        go false true = all-set (m .instances) second _ a (act-in-range (instanceAt m second) (all-at (m .instances) second a) third (m .dtr0))
-        go false false = a
+    unfolding numberedModel instanceAt
+    frame-range first second third =
+        frame-by m first second third (λ x. AllInRange (x .instances)) a
+        (all-set (m .instances) second _ a (act-in-range (instanceAt m second) (all-at (m .instances) second a) third (m .dtr0))) a a
 
     held-range : (i : ℕ) (sample : Sample) → allowed m i sample ≡ true → AllInRange (heldModel m i sample .instances)
     unfolding heldModel instanceAt allowed
