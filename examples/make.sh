@@ -12,6 +12,7 @@ valid=0 unready=1 failed=2
 vacant=0 still=2 moving=3  # an occupancy value: bit 0 movement, bit 1 occupied
 nothing=0 movement=1  # of a movement-based one: bit 0 alone
 seconds() { echo $(($1 * 20)); }
+twice() { FR "$@" && FR "$@"; }  # a frame that sets something: it acts when it comes again
 
 # ---- document 01, "A full session, bytes in hex"
 full() {
@@ -24,7 +25,7 @@ full() {
 }
 
 # ---- an hour in an office, 72,000 ticks: instance 0 occupancy, instance 1 light of 10 bits
-set_to() { FR C1 30 "$1" && FR 01 "$2" "$3"; }  # DTR0 loaded, and an instance's setting set from it
+set_to() { FR C1 30 "$1" && twice 01 "$2" "$3"; }  # DTR0 loaded, and an instance's setting set from it
 
 hour() {
     IN 0 $occupancy 2
@@ -67,11 +68,11 @@ hour() {
     TK "$(seconds 120)"
 
     # ten minutes: occupancy's events are switched off, and on again
-    FR 01 00 63
+    twice 01 00 63
     SA 0 $valid $moving
     TK "$(seconds 300)"
     FR 01 00 86  # it does not answer that it is enabled
-    FR 01 00 62
+    twice 01 00 62
     FR 01 00 86  # now it does
     TK "$(seconds 300)"
 
@@ -496,7 +497,7 @@ colour_read_out() {
     FR C1 30 00
     for dtr0 in 0 1 2 3 4 5 6 7 8 9 10 11 12 13 14 15; do FR 01 00 4B; done  # 15 answers; none for DTR0 15
     FR 01 01 4B  # light does not have it, and DTR0 stays 16:
-    FR 01 00 42  # dead time is set from it
+    twice 01 00 42  # dead time is set from it
     FR 01 00 4D
     FR C1 30 FF
     FR 01 00 4B  # none for 255, and DTR0 is 0:
@@ -525,6 +526,74 @@ colour() {
     colour_ends
 }
 
+# ---- what sets something comes twice: instance 0 occupancy, instance 1 light of 8 bits. Its dead time is 30 at the start
+pairs_of_light() {
+    # one alone, and two with a query between: dead time stays 30
+    FR C1 30 0A
+    FR 01 01 32
+    FR 01 01 3D
+    FR 01 01 32
+    FR 01 01 3D
+
+    # two, and 2 ticks between them; a sample and the event of tick 1 lie between too. Dead time is 10 from its next start on
+    FR 01 01 32
+    SA 1 $valid 100
+    up_to 2
+    FR 01 01 32
+    FR 01 01 3D
+    SA 1 $valid 50
+    up_to 31  # the old dead time is over, and the new one begins
+    SA 1 $valid 100
+    up_to 41
+
+    # two, and 3 ticks between them: dead time stays 10
+    FR C1 30 14
+    FR 01 01 32
+    up_to 44
+    FR 01 01 32
+    FR 01 01 3D
+
+    # three: the second acts, dead time is 20, and the third is a first again
+    twice 01 01 32
+    FR 01 01 32
+    FR 01 01 3D
+}
+
+pairs_of_occupancy() {
+    # 01 and FF do the same, but are two frames: it stays enabled
+    FR 01 00 63
+    FR FF 00 63
+    FR 01 00 86
+    SA 0 $valid $moving
+    up_to 45
+
+    # two, and a tick between them: disabled. That the room is left at 47 is not sent
+    FR 01 00 63
+    up_to 46
+    FR 01 00 63
+    FR 01 00 86
+    SA 0 $valid $vacant
+    up_to 60
+
+    # two, and one to another instance between them: it stays disabled. Then by FF, twice
+    FR 01 00 62
+    FR 01 01 62
+    FR 01 00 62
+    FR 01 00 86
+    twice FF 00 62
+    FR 01 00 86
+    SA 0 $valid $moving
+    up_to 61
+}
+
+pairs() {
+    reached=0
+    IN 0 $occupancy 2
+    IN 1 $light 8
+    pairs_of_light
+    pairs_of_occupancy
+}
+
 # ---- one session for each refusal
 refused_1() { IN 0 $light 8 && printf XX; }                      # no such mark
 refused_2() { IN 0 $light 8 && printf 'TK\000'; }                # a record cut short
@@ -542,7 +611,7 @@ refused_7() { IN 0 $light 8 && SA 0 $valid 100 && TK 1 && TK 0; }  # no ticks; w
 # to the last tick number that there is, which is 65,537 records; and one tick more
 refused_8() {
     IN 0 $light 8
-    FR 01 00 63  # its events are switched off
+    twice 01 00 63  # its events are switched off
     TK 4294967295
     FR 01 00 83  # its status, at the last tick: not enabled
     TK 1
@@ -585,7 +654,7 @@ beyond() {
 # A log whose ticks fall: the clock of a device that was set back.
 falls() { head -c 20 "$here/full.log" && head -c 10 "$here/full.log"; }
 
-for session in full hour morning beyond texts infrared colour refused_1 refused_2 refused_3 refused_4 refused_4_lo refused_4_im refused_4_colour refused_5 \
+for session in full hour morning beyond texts infrared colour pairs refused_1 refused_2 refused_3 refused_4 refused_4_lo refused_4_im refused_4_colour refused_5 \
     refused_6 refused_6_im refused_6_colour refused_7 refused_8 refused_13 refused_13_colour; do
     $session >"$session.session"
 done

@@ -7,7 +7,7 @@
 #   IM INSTANCE TYPE RESOLUTION    declares a movement-based occupancy instance: type 3, with resolution 2
 #   SA INSTANCE STATUS VALUE       what it measures from now on: status 0 valid; 1 not ready and 2 failed, with value 0
 #   rgb INSTANCE RED GREEN BLUE    an SA of a colour instance with status 0, by its three levels: 0 to 254 is a colour
-#   FR BYTE1 BYTE2 BYTE3           a frame, its bytes in hexadecimal, as in the standards
+#   FR BYTE1 BYTE2 BYTE3           a frame, its bytes in hexadecimal, as in the standards; one that sets something acts when it comes twice in a row
 #   TK TICKS                       so many ticks of 50 ms, up to 4294967295: a record for each 65535 of them, and one for the rest
 #
 # Numbers are decimal without leading zeros, or hexadecimal with 0x, which FR may do without. What does not fit in its bytes is refused: that is said

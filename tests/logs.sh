@@ -185,20 +185,20 @@ for name in full.session full.log; do
     cmp "examples/$name.text" "$room/out"
 done
 cp examples/hour.session "$room/input"
-shows 0 '167 records, 908 bytes shown'
+shows 0 '173 records, 938 bytes shown'
 # the three marks that declare; and declarations whose fields are not judged
 cp examples/texts.session "$room/input"
 shows 0 '26 records, 156 bytes shown'
 grep -qx 'byte        5  tick       0   0:00:00.00  LO  instance 1  type 4  resolution 10' "$room/out" || fail "show, LO: $(head -n 2 "$room/out")"
 cp examples/infrared.session "$room/input"
-shows 0 '109 records, 582 bytes shown'
+shows 0 '113 records, 602 bytes shown'
 grep -qx 'byte        5  tick       0   0:00:00.00  IM  instance 1  type 3  resolution 2' "$room/out" || fail "show, IM: $(head -n 2 "$room/out")"
 # a colour: blue, green and red, as one number
 cp examples/colour.session "$room/input"
-shows 0 '135 records, 700 bytes shown'
+shows 0 '148 records, 765 bytes shown'
 grep -qx 'byte        0  tick       0   0:00:00.00  IN  instance 0  type 5  resolution 24' "$room/out" || fail "show, colour: $(head -n 1 "$room/out")"
-grep -qx "byte      108  tick    4200   0:03:30.00  SA  instance 0  status 0  value $((120 * 65536 + 110 * 256 + 70))" "$room/out" ||
-    fail "show, a colour: $(grep '^byte      108' "$room/out")"
+grep -qx "byte      113  tick    4200   0:03:30.00  SA  instance 0  status 0  value $((120 * 65536 + 110 * 256 + 70))" "$room/out" ||
+    fail "show, a colour: $(grep '^byte      113' "$room/out")"
 for other in lo im colour; do
     cp "examples/refused_4_$other.session" "$room/input"
     shows 0 '1 record, 5 bytes shown'

@@ -175,11 +175,11 @@ potmeander: $(many "$(wc -c <"$room/log" | tr -d ' ')" byte) read; $printed prin
 "$potmeander" <examples/morning.session >"$room/plain" 2>/dev/null
 cp examples/morning.session "$room/input"
 types='occupancy;light, resolution 10;light, resolution 8'
-session 0 '43 records, 237 bytes read; 396000 ticks; 2238 bytes logged' '3 sheets of 6 hours'
+session 0 '45 records, 247 bytes read; 396000 ticks; 2238 bytes logged' '3 sheets of 6 hours'
 cmp "$room/plain" "$room/log"
 printed "$room/sheets" 3 6 -v of='a session' -v reached=396000 -v types="$types"
 cmp examples/morning.sheets "$room/sheets"
-session 0 '43 records, 237 bytes read; 396000 ticks; 2238 bytes logged' '3 sheets of 6 hours' --clock 22:15 --daylight -30
+session 0 '45 records, 247 bytes read; 396000 ticks; 2238 bytes logged' '3 sheets of 6 hours' --clock 22:15 --daylight -30
 printed "$room/sheets" 3 6 -v of='a session' -v reached=396000 -v types="$types" -v clock=1305
 cp "$room/log" "$room/input"
 call hours 3 6
@@ -191,12 +191,12 @@ cmp examples/morning.hour_2.log "$room/out"
 {
     for i in 0 1 2 3; do IN $i 4 8; done
     FR C1 30 01
-    for i in 0 1 2 3; do FR 01 $i 30 && SA $i 0 100; done
+    for i in 0 1 2 3; do FR 01 $i 30 && FR 01 $i 30 && SA $i 0 100; done
     TK 150000
     SA 2 2 0
     TK 66000
 } >"$room/input"
-session 0 '19 records, 100 bytes read; 216000 ticks; 266000 bytes logged' '4 sheets of 3 hours'
+session 0 '23 records, 120 bytes read; 216000 ticks; 266000 bytes logged' '4 sheets of 3 hours'
 light='light, resolution 8'
 printed "$room/sheets" 4 3 -v of='a session' -v reached=216000 -v types="$light;$light;$light;$light"
 # light of either text; all sixteen places, the last by LO
@@ -216,7 +216,7 @@ session 0 '16 records, 80 bytes read; 0 ticks; 0 bytes logged' '16 sheets of 1 h
 printed "$room/sheets" 16 1 -v of='a session' -v reached=0 -v types="${types}light of the 2017 text, resolution 1"
 # occupancy of either make; all sixteen places by all three marks, the last by IM
 cp examples/infrared.session "$room/input"
-session 0 '109 records, 582 bytes read; 72000 ticks; 468 bytes logged' '3 sheets of 1 hour'
+session 0 '113 records, 602 bytes read; 72000 ticks; 468 bytes logged' '3 sheets of 1 hour'
 printed "$room/sheets" 3 1 -v of='a session' -v reached=72000 -v types='movement-based occupancy;movement-based occupancy;occupancy'
 types=
 for i in 0 4 8 12; do
@@ -230,7 +230,7 @@ session 0 '16 records, 80 bytes read; 0 ticks; 0 bytes logged' '16 sheets of 1 h
 printed "$room/sheets" 16 1 -v of='a session' -v reached=0 -v types="${types%;}"
 # colour; all sixteen places by all that may be declared, the last colour
 cp examples/colour.session "$room/input"
-session 0 '135 records, 700 bytes read; 36000 ticks; 630 bytes logged' '2 sheets of 1 hour'
+session 0 '148 records, 765 bytes read; 36000 ticks; 630 bytes logged' '2 sheets of 1 hour'
 printed "$room/sheets" 2 1 -v of='a session' -v reached=36000 -v types='colour, resolution 24;light, resolution 8'
 types=
 for i in 0 5 10; do
@@ -260,7 +260,7 @@ TK 1 >>"$room/input"
 session 1 '55 records, 224 bytes read; 3456000 ticks; 57600 bytes logged; record refused at byte 224: 10, tick number would pass 3,456,000, the last of the hour table' '1 sheet of 48 hours'
 printed "$room/sheets" 1 48 -v of='a session, refused at byte 224: 10' -v reached=3456000 -v types="$light"
 cp examples/beyond.session "$room/input"
-session 1 '58 records, 239 bytes read; 3456000 ticks; 6788 bytes logged; record refused at byte 239: 10, tick number would pass 3,456,000, the last of the hour table' '1 sheet of 48 hours'
+session 1 '59 records, 244 bytes read; 3456000 ticks; 6788 bytes logged; record refused at byte 244: 10, tick number would pass 3,456,000, the last of the hour table' '1 sheet of 48 hours'
 cmp examples/beyond.sheets "$room/sheets"
 cp examples/refused_7.session "$room/input"
 session 1 '3 records, 16 bytes read; 1 tick; 10 bytes logged; record refused at byte 16: 7, TK count 0' '1 sheet of 1 hour'

@@ -1,7 +1,7 @@
 /* Writes a session far longer than the program's buffers, or one whose log is.
  *   big_session queries COUNT       one light instance asked COUNT times for its value
  *   big_session reports COUNT       sixteen light instances that report every 30 ticks, in COUNT TK records of 65,535 ticks
- *   big_session mixed SEED SHIFT    SHIFT ticks, and then 20,000 records of every kind, chosen by SEED */
+ *   big_session mixed SEED SHIFT    SHIFT ticks, and then 20,000 records of every kind and more, chosen by SEED */
 #include "whole.h"
 
 #include <stdio.h>
@@ -35,6 +35,13 @@ static void frame(uint8_t first, unsigned second, uint8_t third)
     put("FR", (uint8_t[]){first, (uint8_t)second, third}, 3);
 }
 
+/* Twice: then it acts (02, M-105). */
+static void setting(unsigned instance, uint8_t opcode)
+{
+    frame(0x01, instance, opcode);
+    frame(0x01, instance, opcode);
+}
+
 static void ticks(unsigned count)
 {
     put("TK", (uint8_t[]){(uint8_t)(count >> 8), (uint8_t)count}, 2);
@@ -53,7 +60,7 @@ static void reports(uint64_t count)
     for (unsigned i = 0; i < INSTANCES; i++) declare("IN", i, LIGHT);
     frame(0xC1, 0x30, 1);
     for (unsigned i = 0; i < INSTANCES; i++) {
-        frame(0x01, i, 0x30);
+        setting(i, 0x30);
         sample(i, 10 * i);
     }
     for (uint64_t i = 0; i < count; i++) ticks(65535);
@@ -97,6 +104,15 @@ static unsigned any_value(unsigned instance)
     }
 }
 
+/* Most often twice, now and then with a tick between: queries too. */
+static void command(unsigned instance, uint8_t opcode)
+{
+    frame(0x01, instance, opcode);
+    if (below(4) == 0) return;
+    if (below(4) == 0) ticks(1);
+    frame(0x01, instance, opcode);
+}
+
 static void mixed(uint64_t seed, uint64_t shift)
 {
     static const uint8_t opcodes[] = {0x20, 0x21, 0x22, 0x23, 0x24, 0x2C, 0x2D, 0x2E, 0x2F, 0x30, 0x31, 0x32,
@@ -109,7 +125,7 @@ static void mixed(uint64_t seed, uint64_t shift)
         unsigned instance = below(INSTANCES);
         switch (below(4)) {
         case 0: ticks(1 + below(below(50) == 0 ? 2000 : 3)); break;
-        case 1: frame(0x01, instance, opcodes[below(sizeof opcodes)]); break;
+        case 1: command(instance, opcodes[below(sizeof opcodes)]); break;
         case 2: frame(0xC1, 0x30, (uint8_t)below(4)); break;
         default: sample(instance, any_value(instance)); break;
         }

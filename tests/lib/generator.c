@@ -20,7 +20,7 @@ enum { EMPTY = 0, STILL = 2, MOVING = 3 };
 enum { CHANNELS = 3, CHANNEL_MOST = 254, BLACK = 0, WHITE = 0xFEFEFE };
 
 /* What the generator remembers of an instance, to choose values and tick counts that tell something. It may be wrong: a setting
- * that is refused is remembered all the same. */
+ * that is refused is remembered all the same; but not one whose repeat does not come. */
 typedef struct {
     uint8_t type, resolution;
     mark by; /* declared by LO, its band is on the input value; by IM, it is movement-based */
@@ -32,17 +32,30 @@ typedef struct {
     bool moving; /* the sample that it holds */
     uint8_t hold, value;
     uint32_t expires; /* the tick at which the hold that runs expires */
+    bool disabled;
     /* colour */
-    bool disabled, filtered; /* by its filter */
+    bool filtered;           /* by its filter */
     uint32_t shown;          /* the sample that it holds */
     uint32_t last, band;     /* as the last event by a change left them */
     uint32_t free_from;      /* the first tick behind dead time */
 } sketch;
 
+/* The first frame of a pair (M-105), where the last one was one. */
+typedef struct {
+    bool open;
+    uint8_t bytes[3];
+    uint32_t tick;
+} half;
+
 typedef struct {
     uint64_t random;
     uint8_t *bytes;
     size_t len;
+    bool single;  /* what sets something is sent once, and acts at once: as before M-105 */
+    unsigned odd; /* of a hundred pairs so many are odd ones */
+    bool twice;   /* opcodes that no type has come twice too */
+    half first;
+    bool acted; /* a frame that sets something acted since this was false */
     uint8_t dtr0;
     uint32_t tick; /* from 0 on, wherever the model begins */
     unsigned declared;
@@ -135,9 +148,30 @@ static void put_sa(generator *g, unsigned number, unsigned status, uint32_t valu
     PUT(g, 'S', 'A', (uint8_t)number, (uint8_t)status, (uint8_t)(value >> 16), (uint8_t)(value >> 8), (uint8_t)value);
 }
 
+/* Whether an opcode sets something of an instance. */
+static bool is_setting(const sketch *s, unsigned opcode)
+{
+    if (opcode == 0x61 || opcode == 0x62 || opcode == 0x63 || opcode == 0x68) return true;
+    if (s->type == LIGHT) return opcode >= 0x30 && opcode <= 0x33;
+    if (s->type == COLOUR) return opcode >= 0x40 && opcode <= 0x43;
+    return opcode == 0x22 || opcode == 0x23 || (s->by == IM && opcode == 0x21);
+}
+
+/* Remembers a first frame, and sees whether it comes again in time. */
+static void pass_frame(generator *g, const uint8_t *bytes)
+{
+    bool counts = (bytes[0] == 0x01 || bytes[0] == 0xFF) && bytes[1] < g->declared;
+    bool sets = counts && is_setting(&g->instance[bytes[1]], bytes[2]);
+    bool repeat = g->first.open && memcmp(g->first.bytes, bytes, 3) == 0 && g->tick - g->first.tick <= 2;
+    if (sets && (repeat || g->single)) g->acted = true;
+    g->first = (half){sets && !repeat, {bytes[0], bytes[1], bytes[2]}, g->tick};
+}
+
 static void put_fr(generator *g, unsigned byte1, unsigned byte2, unsigned byte3)
 {
-    PUT(g, 'F', 'R', (uint8_t)byte1, (uint8_t)byte2, (uint8_t)byte3);
+    const uint8_t bytes[3] = {(uint8_t)byte1, (uint8_t)byte2, (uint8_t)byte3};
+    PUT(g, 'F', 'R', bytes[0], bytes[1], bytes[2]);
+    pass_frame(g, bytes);
 }
 
 static uint32_t hold_time(const sketch *s)
@@ -204,15 +238,6 @@ static void put_tk(generator *g, unsigned count)
     PUT(g, 'T', 'K', (uint8_t)(count >> 8), (uint8_t)count);
     for (unsigned i = 0; i < g->declared; i++) pass_ticks(&g->instance[i], g->tick + 1, g->tick + count);
     g->tick += count;
-}
-
-/* A frame to an instance, by one of the two first bytes that count. */
-static void put_command(generator *g, unsigned number, unsigned opcode)
-{
-    put_fr(g, chance(g, 75) ? 0x01 : 0xFF, number, opcode);
-    if (number >= g->declared || g->instance[number].type != COLOUR) return;
-    if (opcode == 0x4B) g->dtr0++;
-    if (opcode == 0x62 || opcode == 0x63) g->instance[number].disabled = opcode == 0x63;
 }
 
 /* ---- Instances ---- */
@@ -396,6 +421,71 @@ static void sample(generator *g, unsigned number)
     else put_valid(g, number);
 }
 
+/* ---- Frames, and pairs of them ---- */
+
+static unsigned any_query(generator *g)
+{
+    return ONE_OF(g, 0x80, 0x81, 0x82, 0x83, 0x84, 0x86, 0x8C, 0x8D, 0x90, 0x2C, 0x2D, 0x2E, 0x2F, 0x3C, 0x3D, 0x3E, 0x3F,
+                  0x4B, 0x4C, 0x4D, 0x4E, 0x4F);
+}
+
+/* A frame to an instance by a first byte that counts, and what becomes of it but for its setting. */
+static void put_frame(generator *g, unsigned byte1, unsigned number, unsigned opcode)
+{
+    put_fr(g, byte1, number, opcode);
+    if (number < g->declared && g->instance[number].type == COLOUR && opcode == 0x4B) g->dtr0++;
+}
+
+/* The other first byte that counts. */
+static unsigned other_address(unsigned byte1)
+{
+    return byte1 == 0x01 ? 0xFF : 0x01;
+}
+
+/* A frame once, three times, or twice with something between that may drop the first. */
+static void put_odd_pair(generator *g, unsigned byte1, unsigned number, unsigned opcode)
+{
+    unsigned how = below(g, 9);
+    put_frame(g, byte1, number, opcode);
+    switch (how) {
+    case 0: return;
+    case 1: put_frame(g, byte1, number, opcode); break;
+    case 2: put_tk(g, 1 + below(g, 2)); break;
+    case 3: put_tk(g, 3); break;
+    case 4: if (number < g->declared) sample(g, number); break;
+    case 5: put_frame(g, byte1, number, any_query(g)); break;
+    case 6: put_frame(g, byte1, any_instance(g), opcode); break;
+    case 7: put_fr(g, 0x03, number, opcode); break;
+    default: byte1 = other_address(byte1); break;
+    }
+    put_frame(g, byte1, number, opcode);
+}
+
+/* Whether an opcode comes twice: those that set something of any type and, where that is wanted, those that no type has. */
+static bool comes_twice(const generator *g, unsigned opcode)
+{
+    if (g->single) return false;
+    if ((opcode >= 0x21 && opcode <= 0x23) || (opcode >= 0x30 && opcode <= 0x33) || (opcode >= 0x40 && opcode <= 0x43)) return true;
+    if (opcode == 0x61 || opcode == 0x62 || opcode == 0x63 || opcode == 0x68) return true;
+    bool asks = (opcode >= 0x2C && opcode <= 0x2F) || (opcode >= 0x3C && opcode <= 0x3F) || (opcode >= 0x4B && opcode <= 0x4F) ||
+                (opcode >= 0x80 && opcode <= 0x90);
+    return g->twice && !asks && opcode != 0x20 && opcode != 0x24;
+}
+
+/* A frame to an instance, by one of the two first bytes that count; where it sets something, most often twice in a row. Gives
+ * whether it is obeyed, or acts at once. */
+static bool put_command(generator *g, unsigned number, unsigned opcode)
+{
+    unsigned byte1 = chance(g, 75) ? 0x01 : 0xFF;
+    g->acted = false;
+    if (!comes_twice(g, opcode)) put_frame(g, byte1, number, opcode);
+    else if (chance(g, g->odd)) put_odd_pair(g, byte1, number, opcode);
+    else put_frame(g, byte1, number, opcode), put_frame(g, byte1, number, opcode);
+    if (number >= g->declared) return false;
+    if (g->acted && (opcode == 0x62 || opcode == 0x63)) g->instance[number].disabled = opcode == 0x63;
+    return g->acted || !is_setting(&g->instance[number], opcode);
+}
+
 /* ---- Settings and queries ---- */
 
 static uint8_t telling_dtr0(generator *g, unsigned opcode)
@@ -454,8 +544,7 @@ static void load_dtr0(generator *g, uint8_t dtr0)
 static void set_to(generator *g, unsigned number, unsigned opcode, uint8_t dtr0)
 {
     load_dtr0(g, dtr0);
-    put_command(g, number, opcode);
-    remember(g, number, opcode, dtr0);
+    if (put_command(g, number, opcode)) remember(g, number, opcode, dtr0);
 }
 
 /* The opcodes by which an instance's type sets its times, and light or colour its hysteresis. */
@@ -491,14 +580,7 @@ static void set_something(generator *g, unsigned number)
     static const sketch others[] = {{.type = OCCUPANCY}, {.type = OCCUPANCY, .by = IM}, {.type = LIGHT}, {.type = COLOUR}};
     unsigned opcode = any_setting(g, chance(g, 90) ? &g->instance[number] : &others[below(g, 4)]);
     if (chance(g, 85)) load_dtr0(g, telling_dtr0(g, opcode));
-    put_command(g, number, opcode);
-    remember(g, number, opcode, g->dtr0);
-}
-
-static unsigned any_query(generator *g)
-{
-    return ONE_OF(g, 0x80, 0x81, 0x82, 0x83, 0x84, 0x86, 0x8C, 0x8D, 0x90, 0x2C, 0x2D, 0x2E, 0x2F, 0x3C, 0x3D, 0x3E, 0x3F,
-                  0x4B, 0x4C, 0x4D, 0x4E, 0x4F);
+    if (put_command(g, number, opcode)) remember(g, number, opcode, g->dtr0);
 }
 
 /* The whole input value, or more of it than there is. */
@@ -650,7 +732,7 @@ static void unmodelled(generator *g, unsigned turn)
  * session ends in it. */
 static void late_declaration(generator *g)
 {
-    put_fr(g, 0x01, 0x00, any_query(g));
+    put_fr(g, 0x01, 0x00, !g->single && chance(g, 30) ? 0x62 : any_query(g));
     size_t start = g->len;
     mark by = any_mark(g);
     bool occupancy = (by == IM) == chance(g, 75);
@@ -740,6 +822,7 @@ static void begin_unready(generator *g)
 
 static void mixed_traffic(generator *g)
 {
+    g->odd = 12;
     declare_any(g, chance(g, 80) ? 1 + below(g, 4) : 1 + below(g, 16));
     for (unsigned i = 0; i < g->declared; i++) if (chance(g, 50)) set_something(g, i);
     begin_unready(g);
@@ -969,14 +1052,16 @@ static void turn(generator *g, pair p, unsigned byte)
     put_tk(g, p.deadtime - 1);
 }
 
-/* Sixteen third bytes in a row: in sixteen turns all, to light and presence, in sixteen more to light and movement-based occupancy,
- * and in the last sixteen to colour and presence. Where a swing and its dead time come first, the later ones go the other way. */
+/* Sixteen third bytes in a row, those that ask nothing twice: in sixteen turns all, to light and presence, in sixteen more to light
+ * and movement-based occupancy, and in the last sixteen to colour and presence. Where a swing and its dead time come first, the
+ * later ones go the other way. */
 static void third_bytes(generator *g, unsigned turns)
 {
     unsigned light = below(g, 2), kinds = turns / 16;
     pair p = {
         .light = light, .occupancy = 1 - light, .colour = kinds == 2, .movement = kinds == 1, .deadtime = ONE_OF(g, 3, 4, 6),
     };
+    g->twice = true;
     declare_pair(g, p);
     if (chance(g, 50)) swing(g, p), put_tk(g, 31);
     for (unsigned i = 0; i < 16; i++) turn(g, p, turns % 16 * 16 + i);
@@ -1627,8 +1712,7 @@ static void set_from_dtr0(generator *g, unsigned number)
 {
     const sketch *s = &g->instance[number];
     unsigned opcode = any_setting(g, s);
-    put_command(g, number, opcode);
-    remember(g, number, opcode, g->dtr0);
+    if (put_command(g, number, opcode)) remember(g, number, opcode, g->dtr0);
     if (s->type == COLOUR) for (unsigned i = 0; i < 4; i++) put_command(g, number, 0x4C + i);
     put_command(g, number, ONE_OF(g, 0x84, 0x90));
 }
@@ -1757,6 +1841,424 @@ static void colours(generator *g, test_case *c)
     }
 }
 
+/* ---- Profile p: pairs ---- */
+
+/* A command that sets something, by one first byte. */
+typedef struct {
+    unsigned byte1, number, opcode;
+} command;
+
+/* A value that the setting takes, of which events soon tell; now and then one that it does not take. */
+static uint8_t pair_dtr0(generator *g, const sketch *s, unsigned opcode)
+{
+    switch (opcode) {
+    case 0x21: return (uint8_t)ONE_OF(g, 0, 1, 2, 3, 255);
+    case 0x22: case 0x30: case 0x40: return (uint8_t)below(g, 4);
+    case 0x23: case 0x32: case 0x42: return (uint8_t)ONE_OF(g, 0, 0, 1, 3, 6);
+    case 0x31: case 0x41: return (uint8_t)ONE_OF(g, 0, 1, 5, 10, 25, 26);
+    case 0x61: return (uint8_t)ONE_OF(g, 2, 3, 4, 5, 5, 6);
+    case 0x68: return (uint8_t)(s->type == OCCUPANCY ? below(g, 32) : below(g, chance(g, 80) ? 2 : 4));
+    }
+    return (uint8_t)below(g, 256);
+}
+
+/* The query for what a command sets. */
+static unsigned query_of(unsigned opcode)
+{
+    static const uint8_t by_type[] = {0x0E, 0x0F, 0x0D, 0x0C};
+    switch (opcode) {
+    case 0x21: return 0x2D;
+    case 0x22: return 0x2E;
+    case 0x23: return 0x2C;
+    case 0x61: return 0x84;
+    case 0x62: case 0x63: return 0x83;
+    case 0x68: return 0x90;
+    }
+    return (opcode & 0xF0) | by_type[opcode & 3];
+}
+
+/* A set command of an instance's type. */
+static unsigned own_setting(generator *g, const sketch *s)
+{
+    if (s->type == LIGHT) return 0x30 + below(g, 4);
+    if (s->type == COLOUR) return 0x40 + below(g, 4);
+    return s->by == IM ? ONE_OF(g, 0x21, 0x21, 0x22, 0x23) : ONE_OF(g, 0x22, 0x23);
+}
+
+/* A command to an instance; to switch it, the one that changes something. */
+static command command_to(generator *g, unsigned number)
+{
+    const sketch *s = &g->instance[number];
+    unsigned opcode = own_setting(g, s);
+    if (chance(g, 45)) opcode = ONE_OF(g, 0x61, 0x62, 0x62, 0x68);
+    if (opcode == 0x62 && !s->disabled) opcode = 0x63;
+    return (command){chance(g, 70) ? 0x01 : 0xFF, number, opcode};
+}
+
+/* Such a command, and DTR0 loaded for it. */
+static command begin_command(generator *g, unsigned number)
+{
+    command c = command_to(g, number);
+    load_dtr0(g, pair_dtr0(g, &g->instance[number], c.opcode));
+    return c;
+}
+
+/* One frame of a pair. */
+static void put_half(generator *g, command c)
+{
+    g->acted = false;
+    put_frame(g, c.byte1, c.number, c.opcode);
+    if (!g->acted) return;
+    remember(g, c.number, c.opcode, g->dtr0);
+    if (c.opcode == 0x62 || c.opcode == 0x63) g->instance[c.number].disabled = c.opcode == 0x63;
+}
+
+static void put_whole(generator *g, command c)
+{
+    put_half(g, c);
+    put_half(g, c);
+}
+
+/* So many ticks in one TK or several, now and then with a sample between those. */
+static void put_ticks(generator *g, unsigned count)
+{
+    while (count > 0) {
+        unsigned some = 1 + below(g, count);
+        put_tk(g, some);
+        count -= some;
+        if (count > 0 && chance(g, 40)) sample(g, any_instance(g));
+    }
+}
+
+/* An opcode that the instance does not have. */
+static unsigned ignored_opcode(generator *g, const sketch *s)
+{
+    if (chance(g, 50)) return ONE_OF(g, 0x00, 0x60, 0x64, 0x69, 0x85, 0x8B, 0xFF);
+    if (s->type == OCCUPANCY) return ONE_OF(g, 0x30, 0x32, 0x40);
+    return s->type == LIGHT ? ONE_OF(g, 0x20, 0x22, 0x42) : ONE_OF(g, 0x22, 0x24, 0x30);
+}
+
+static bool has_movement(const generator *g)
+{
+    for (unsigned i = 0; i < g->declared; i++) if (g->instance[i].by == IM) return true;
+    return false;
+}
+
+/* Catch movement or cancel hold, to an instance that has them, if there is one. */
+static void drop_by_movement(generator *g, command c)
+{
+    unsigned number = has_movement(g) ? any_movement(g) : c.number, opcode = ONE_OF(g, 0x20, 0x24);
+    put_frame(g, c.byte1, number, opcode);
+    remember(g, number, opcode, g->dtr0);
+}
+
+/* A frame that does not set anything: what it is for, or that it is for nobody, does not matter. */
+static void drop_by_frame(generator *g, command c)
+{
+    unsigned number = chance(g, 60) ? c.number : any_instance(g);
+    switch (below(g, 11)) {
+    case 0: put_frame(g, c.byte1, number, any_query(g)); break;
+    case 1: put_frame(g, c.byte1, number, ONE_OF(g, 0x82, 0x8D)); break;
+    case 2: case 3: load_dtr0(g, chance(g, 40) ? g->dtr0 : pair_dtr0(g, &g->instance[c.number], c.opcode)); break;
+    case 4: put_fr(g, c.byte1, g->declared + below(g, 2) * 16, chance(g, 50) ? c.opcode : 0x80); break;
+    case 5: put_fr(g, ONE_OF(g, 0x00, 0x02, 0x03, 0xFE, 0xC1), c.number, c.opcode); break;
+    case 6: put_frame(g, c.byte1, number, ignored_opcode(g, &g->instance[number])); break;
+    case 7: put_frame(g, c.byte1, number, 0x4B); break;
+    default: drop_by_movement(g, c); break;
+    }
+}
+
+/* Another frame that sets something, which may be a first itself. */
+static void drop_by_setting(generator *g, command c)
+{
+    command other = command_to(g, chance(g, 60) ? c.number : any_instance(g));
+    switch (below(g, 4)) {
+    case 0: other = (command){other_address(c.byte1), c.number, c.opcode}; break;
+    case 1: other = (command){c.byte1, any_instance(g), c.opcode}; break;
+    case 2: other.byte1 = c.byte1; break;
+    default: break;
+    }
+    put_half(g, other);
+    if (chance(g, 30)) put_half(g, other);
+}
+
+/* What lies between two frames: ticks, samples or another frame. */
+static void come_between(generator *g, command c)
+{
+    switch (below(g, 14)) {
+    case 0: put_ticks(g, 1); break;
+    case 1: put_ticks(g, 2); break;
+    case 2: put_ticks(g, 3); break;
+    case 3: put_ticks(g, ONE_OF(g, 4, 5, 20, 255, 256, 257, 258)); break;
+    case 4: sample(g, chance(g, 60) ? c.number : any_instance(g)); break;
+    case 5: sample(g, any_instance(g)), put_tk(g, 1 + below(g, 2)); break;
+    case 6: case 7: drop_by_setting(g, c); break;
+    default: drop_by_frame(g, c); break;
+    }
+}
+
+/* All settings of an instance. */
+static void show_settings(generator *g, unsigned number)
+{
+    const sketch *s = &g->instance[number];
+    unsigned own = s->type == LIGHT ? 0x3C : s->type == COLOUR ? 0x4C : 0x2C;
+    put_frame(g, 0x01, number, 0x83);
+    put_frame(g, 0x01, number, 0x84);
+    put_frame(g, 0x01, number, 0x90);
+    for (unsigned i = 0; i < 4; i++) if (s->type != OCCUPANCY || s->by == IM || i % 2 == 0) put_frame(g, 0x01, number, own + i);
+}
+
+/* What was set, or was not: by a query, by those for all that may be set, by events. */
+static void show(generator *g, command c)
+{
+    if (chance(g, 50)) put_frame(g, 0x01, c.number, query_of(c.opcode));
+    else for (unsigned i = 0; i < g->declared; i++) show_settings(g, i);
+    if (chance(g, 30)) return;
+    for (unsigned i = 0; i < g->declared; i++) if (chance(g, 70)) put_valid(g, i);
+    put_tk(g, ONE_OF(g, 1, 1, 2, 7));
+}
+
+/* Two to four frames of a command, with something between them or nothing. */
+static void pass_pair(generator *g)
+{
+    command c = begin_command(g, any_instance(g));
+    put_half(g, c);
+    for (unsigned i = 1 + below(g, 3); i > 0; i--) {
+        if (chance(g, 75)) come_between(g, c);
+        put_half(g, c);
+    }
+    show(g, c);
+}
+
+/* Two commands in turn: A B A B, A B B A, A A B B. */
+static void pass_two(generator *g)
+{
+    command a = begin_command(g, any_instance(g)), b = command_to(g, any_instance(g));
+    unsigned order = ONE_OF(g, 0xA, 0x9, 0xC, 0x8, 0xB, 0xE);
+    for (unsigned i = 0; i < 4; i++) put_half(g, order >> i & 1 ? b : a);
+    show(g, a);
+    show(g, b);
+}
+
+/* Dead time in which a change is held back, and a first half, alone or with its repeat: what goes out behind it? */
+static void pass_held_back(generator *g, unsigned number)
+{
+    sketch *s = &g->instance[number];
+    unsigned opcode = ONE_OF(g, 0x63, 0x68, deadtime_opcode(s), report_opcode(s), 0x61);
+    command c = {0x01, number, opcode};
+    put_whole(g, (command){0x01, number, 0x62});
+    set_to(g, number, 0x68, s->type == OCCUPANCY ? 0x1F : 1);
+    set_to(g, number, deadtime_opcode(s), 0);
+    put_valid(g, number);
+    put_tk(g, 1);
+    set_to(g, number, deadtime_opcode(s), 6);
+    for (unsigned i = 0; i < 2; i++) put_valid(g, number), put_tk(g, 1);
+    load_dtr0(g, (uint8_t)ONE_OF(g, 0, 0, 2));
+    put_half(g, c);
+    if (chance(g, 25)) put_half(g, c);
+    put_tk(g, ONE_OF(g, 2, 4, 6, 8));
+    show(g, c);
+}
+
+/* A report that runs, and a first half before it is due. */
+static void pass_report_half(generator *g, unsigned number)
+{
+    sketch *s = &g->instance[number];
+    command c = command_to(g, number);
+    put_whole(g, (command){0x01, number, 0x62});
+    set_to(g, number, 0x68, s->type == OCCUPANCY ? 0x07 : 1);
+    set_times(g, number, 0, 0);
+    set_to(g, number, report_opcode(s), 1);
+    put_valid(g, number);
+    put_tk(g, 2 + below(g, 18));
+    if (chance(g, 40)) c.opcode = report_opcode(s), load_dtr0(g, 0);
+    put_half(g, c);
+    put_tk(g, report_unit(s) + 1);
+    show(g, c);
+}
+
+/* A first half, alone or with its repeat, while a value is read. */
+static void pass_latched(generator *g, unsigned number)
+{
+    command c = begin_command(g, number);
+    put_frame(g, 0x01, number, 0x8C);
+    put_half(g, c);
+    if (chance(g, 50)) put_half(g, c);
+    put_frame(g, 0x01, number, 0x8D);
+    put_frame(g, 0x01, number, 0x8D);
+}
+
+/* Catching, and a filter without bit 3 that is set again when Movement was caught in dead time: the third frame is a first, and
+ * leaves Movement; the fourth drops it. */
+static void pass_third(generator *g, unsigned number)
+{
+    command c = {0x01, number, 0x68};
+    put_whole(g, (command){0x01, number, 0x62});
+    set_to(g, number, 0x23, 0);
+    set_to(g, number, 0x68, 0x1F);
+    put_sa(g, number, 0, 0), put_tk(g, 1);
+    set_to(g, number, 0x23, 8);
+    put_sa(g, number, 0, 1), put_tk(g, 1);
+    put_sa(g, number, 0, 0), put_tk(g, 1);
+    set_to(g, number, 0x68, (uint8_t)ONE_OF(g, 0x03, 0x07));
+    put_frame(g, 0x01, number, 0x20);
+    put_whole(g, c);
+    put_sa(g, number, 0, 1), put_tk(g, 1 + below(g, 3));
+    put_half(g, c);
+    if (chance(g, 40)) put_tk(g, below(g, 3)), put_half(g, c);
+    put_tk(g, 8);
+    put_frame(g, 0x01, number, 0x2F);
+}
+
+static void pair_round(generator *g)
+{
+    unsigned number = any_instance(g);
+    switch (below(g, 12)) {
+    case 0: pass_held_back(g, number); break;
+    case 1: pass_report_half(g, number); break;
+    case 2: pass_latched(g, number); break;
+    case 3: pass_two(g); break;
+    case 4: if (has_movement(g)) pass_third(g, any_movement(g)); break;
+    default: pass_pair(g); break;
+    }
+}
+
+/* A record that is refused, by any of the numbers. */
+static void put_refused(generator *g, unsigned number)
+{
+    switch (below(g, 7)) {
+    case 0: PUT(g, 'X', 'X', 0, 1); break;
+    case 1: PUT(g, 'F', 'R', 0x01); break;
+    case 2: put_declaration(g, IN, g->declared, LIGHT, 8); break;
+    case 3: PUT(g, 'S', 'A', (uint8_t)g->declared, 0, 0, 0, 1); break;
+    case 4: PUT(g, 'T', 'K', 0, 0); break;
+    case 5: PUT(g, 'S', 'A', (uint8_t)number, 3, 0, 0, 0); break;
+    default:
+        put_valid(g, number);
+        PUT(g, 'S', 'A', (uint8_t)number, 1, 0, 0, 0);
+    }
+}
+
+/* The end of the first part between the two frames of a pair; before it, at times, what is refused. */
+static void end_pair_part(generator *g, test_case *c)
+{
+    unsigned number = any_instance(g);
+    command first = begin_command(g, number);
+    put_half(g, first);
+    put_ticks(g, below(g, 3));
+    if (chance(g, 75)) put_refused(g, number);
+    c->before_len = g->len;
+    if (chance(g, 25)) come_between(g, first);
+    put_half(g, first);
+    show(g, first);
+}
+
+/* A query that finds no room between the two frames, at the end of the first part. */
+static void short_pair(generator *g, test_case *c)
+{
+    unsigned fit = 1 + below(g, 3), number = any_instance(g);
+    command first = begin_command(g, number);
+    c->log_len = 8 * fit + below(g, 8);
+    for (unsigned i = 0; i < fit; i++) put_frame(g, 0x01, number, 0x80);
+    put_half(g, first);
+    put_frame(g, 0x01, any_instance(g), g->instance[number].type == COLOUR && g->dtr0 < 15 ? ONE_OF(g, 0x4B, 0x80) : 0x80);
+    c->before_len = g->len;
+    if (chance(g, 25)) put_frame(g, 0x01, number, 0x8D);
+    put_half(g, first);
+    put_frame(g, 0x01, number, query_of(first.opcode));
+    if (chance(g, 40)) put_whole(g, first);
+    put_frame(g, 0x01, number, query_of(first.opcode));
+}
+
+/* A TK of which one tick finds room, between the two frames: presence whose second event does not fit. */
+static void full_pair(generator *g, test_case *c)
+{
+    c->log_len = 18 + below(g, 2);
+    declare_presence(g);
+    put_sa(g, 0, 0, 2), put_tk(g, 1);
+    put_sa(g, 0, 0, 0);
+    command first = begin_command(g, 0);
+    put_half(g, first);
+    PUT(g, 'T', 'K', 0, 3);
+    c->before_len = g->len;
+    put_tk(g, below(g, 3));
+    put_half(g, first);
+    put_frame(g, 0x01, 0, query_of(first.opcode));
+}
+
+/* Pairs up to the last tick number. */
+static void last_pairs(generator *g, test_case *c)
+{
+    unsigned left = below(g, 8);
+    c->start_tick = 4294967295u - left;
+    g->work_left = left * g->declared;
+    for (unsigned i = 1 + below(g, 4); i > 0; i--) {
+        command some = begin_command(g, any_instance(g));
+        put_half(g, some);
+        put_ticks(g, below(g, 4));
+        put_half(g, some);
+        put_frame(g, 0x01, some.number, query_of(some.opcode));
+    }
+}
+
+/* Two frames with 65,536 ticks between them, or some more. */
+static void far_pair(generator *g)
+{
+    g->work_left = 70000;
+    declare_presence(g);
+    set_to(g, 0, 0x22, 0);
+    command first = begin_command(g, 0);
+    put_half(g, first);
+    put_tk(g, 65535);
+    put_tk(g, 1 + below(g, 3));
+    put_half(g, first);
+    show(g, first);
+}
+
+/* Of any kind. */
+static void declare_mixed(generator *g, unsigned count)
+{
+    for (unsigned i = 0; i < count; i++) {
+        switch (below(g, 5)) {
+        case 0: declare_presence(g); break;
+        case 1: case 2: declare_movement(g); break;
+        case 3: declare_colour(g); break;
+        default: declare_light(g, 1 + below(g, 24)); break;
+        }
+    }
+}
+
+static void many_pairs(generator *g, test_case *c)
+{
+    unsigned rounds = 10 + below(g, 8), parted = chance(g, 60) ? below(g, rounds) : rounds;
+    for (unsigned i = 0; i < g->declared; i++) {
+        if (chance(g, 70)) set_times(g, i, (uint8_t)below(g, 3), (uint8_t)below(g, 3));
+        put_valid(g, i);
+    }
+    put_tk(g, 1);
+    for (unsigned i = 0; i < rounds; i++) {
+        if (i == parted) end_pair_part(g, c);
+        pair_round(g);
+    }
+}
+
+static void pairs(generator *g, test_case *c)
+{
+    unsigned how = below(g, 40);
+    if (how == 0) {
+        far_pair(g);
+        return;
+    }
+    if (how < 4) {
+        full_pair(g, c);
+        return;
+    }
+    declare_mixed(g, 1 + below(g, 3));
+    if (how < 8) short_pair(g, c);
+    else if (how < 13) last_pairs(g, c);
+    else many_pairs(g, c);
+}
+
 /* ---- The choice by the seed ---- */
 
 /* The place of a seed among a hundred in a row, which have a hundred different ones. */
@@ -1769,9 +2271,9 @@ static unsigned place_of(uint64_t seed)
 static char profile_of(uint64_t seed)
 {
     static const struct { unsigned up_to; char profile; } shares[] = {
-        {8, 'a'}, {10, 'o'}, {12, 'n'}, {18, 'l'}, {25, 'b'}, {26, 'o'}, {28, 'n'}, {35, 'c'}, {36, 'o'}, {38, 'n'}, {46, 'm'},
-        {51, 'd'}, {52, 'o'}, {54, 'n'}, {58, 'k'}, {60, 'e'}, {78, 'f'}, {84, 'g'}, {86, 'o'}, {87, 'n'}, {90, 'h'}, {92, 'i'},
-        {100, 'j'},
+        {7, 'a'}, {8, 'p'}, {10, 'o'}, {12, 'n'}, {17, 'l'}, {19, 'p'}, {25, 'b'}, {26, 'o'}, {28, 'n'}, {34, 'c'}, {35, 'p'},
+        {36, 'o'}, {38, 'n'}, {46, 'm'}, {50, 'd'}, {51, 'p'}, {52, 'o'}, {54, 'n'}, {57, 'k'}, {58, 'p'}, {60, 'e'}, {78, 'f'},
+        {83, 'g'}, {84, 'p'}, {86, 'o'}, {87, 'n'}, {89, 'h'}, {90, 'p'}, {92, 'i'}, {100, 'j'},
     };
     unsigned i = 0;
     while (place_of(seed) >= shares[i].up_to) i++;
@@ -1785,10 +2287,12 @@ static unsigned turn_of(uint64_t seed, unsigned places, unsigned hundreds)
     return place_of(seed) % places + places * (unsigned)(seed / 100 % hundreds);
 }
 
-test_case generate(uint64_t seed, char profile)
+static test_case generate_case(uint64_t seed, char profile, bool single)
 {
     test_case c = {.seed = seed, .profile = profile != 0 ? profile : profile_of(seed), .log_len = GENERATOR_LOG_MAX};
     generator g = {.random = seed * 0xD1342543DE82EF95u + (uint64_t)c.profile, .bytes = buffer, .work_left = 4000};
+    g.single = single;
+    g.odd = 2;
     switch (c.profile) {
     case 'a': mixed_traffic(&g); break;
     case 'b': band_edges(&g); break;
@@ -1804,9 +2308,20 @@ test_case generate(uint64_t seed, char profile)
     case 'm': twins(&g, &c, turn_of(seed, 8, 1)); break;
     case 'n': g.work_left = 8000; movement(&g, &c); break;
     case 'o': g.work_left = 8000; colours(&g, &c); break;
+    case 'p': g.work_left = 8000; pairs(&g, &c); break;
     default: third_bytes(&g, turn_of(seed, 8, 6)); break;
     }
     c.session = buffer;
     c.session_len = g.len;
     return c;
+}
+
+test_case generate(uint64_t seed, char profile)
+{
+    return generate_case(seed, profile, false);
+}
+
+test_case generate_single(uint64_t seed, char profile)
+{
+    return generate_case(seed, profile, true);
 }

@@ -25,6 +25,10 @@
  *   o  colour, mixed with the others: changes at the band's edge, in one channel or over three; reports inside the band, outside
  *      it and together with a change; rows of 4B, and what DTR0 is then; some sessions in two parts, for the first of which the
  *      output may be too short
+ *   p  pairs of setting frames (M-105), of all types: ticks, samples and other frames between the two, or nothing; three and four
+ *      in a row; first halves alone; pairs over the end of a part, with a refused record between or not, and about tick
+ *      4,294,967,295
+ * What sets something is sent twice in a row but for profile p, and a few odd pairs in the others, most in a and i.
  */
 typedef struct {
     uint64_t seed;
@@ -33,15 +37,18 @@ typedef struct {
     size_t session_len;
     /* So many first bytes are read as a session of their own, whatever number it comes to, and the rest as a session from the
      * model that was left. The rest's reading is compared; its log begins at the log's first byte, over the first one's.
-     * 0, and nothing is read before, but for profiles l, m, n and o. */
+     * 0, and nothing is read before, but for profiles l, m, n, o and p. */
     size_t before_len;
     size_t log_len;
-    uint32_t start_tick; /* the tick number that the model begins with; 0 but for profiles h and i */
+    uint32_t start_tick; /* the tick number that the model begins with; 0 but for profiles h, i and p */
 } test_case;
 
-enum { GENERATOR_LOG_MAX = 4096, GENERATOR_LAST_PROFILE = 'o' };
+enum { GENERATOR_LOG_MAX = 4096, GENERATOR_LAST_PROFILE = 'p' };
 
 /* The profile is one of a to GENERATOR_LAST_PROFILE, or 0: the seed chooses. */
 test_case generate(uint64_t seed, char profile);
+
+/* The same, but that what sets something is sent once, but for profile p: sessions as they were before M-105. */
+test_case generate_single(uint64_t seed, char profile);
 
 #endif

@@ -298,12 +298,18 @@ static void go_to(maker *m, uint32_t tick)
     }
 }
 
+/* Twice: then it acts (02, M-105). */
+static void put_setting(unsigned number, uint8_t opcode)
+{
+    for (unsigned i = 0; i < 2; i++) PUT('F', 'R', 1, (uint8_t)number, opcode);
+}
+
 /* Dead time and report 0: then it sends when its value changes, and never else. */
 static void set_quiet(unsigned number, uint8_t type)
 {
     PUT('F', 'R', 0xC1, 0x30, 0);
-    PUT('F', 'R', 1, (uint8_t)number, type == LIGHT ? 0x32 : 0x23);
-    PUT('F', 'R', 1, (uint8_t)number, type == LIGHT ? 0x30 : 0x22);
+    put_setting(number, type == LIGHT ? 0x32 : 0x23);
+    put_setting(number, type == LIGHT ? 0x30 : 0x22);
 }
 
 /* In one session of four they keep their defaults, and light reports. */

@@ -498,6 +498,91 @@
     X(REPORT_NO_DEAD_TIME, "event by the report alone does not start dead time") \
     X(TIMERS_REST_DISABLED, "timers stand still while disabled") \
     X(ENABLE_STARTS_REPORT, "enabling starts the report timer") \
+    /* Configuration commands come twice (02, M-105): which frames */ \
+    X(SETS_AT_ONCE, "set commands act at once, as before M-105") \
+    X(FIRST_ACTS, "the first of a pair acts, and its repeat does not") \
+    X(REPEAT_IGNORED, "the repeat does not act either") \
+    X(PRIORITY_AT_ONCE, "61 acts at once") \
+    X(ENABLE_AT_ONCE, "62 acts at once") \
+    X(DISABLE_AT_ONCE, "63 acts at once") \
+    X(FILTER_AT_ONCE, "68 acts at once") \
+    X(REPORT_AT_ONCE, "report set at once") \
+    X(REPORT_0_AT_ONCE, "report set to 0 at once, to others by its repeat") \
+    X(DEADTIME_AT_ONCE, "deadtime set at once") \
+    X(DEADTIME_0_AT_ONCE, "deadtime set to 0 at once, to others by its repeat") \
+    X(HYSTERESIS_AT_ONCE, "hysteresis set at once") \
+    X(MIN_AT_ONCE, "hysteresisMin set at once") \
+    X(HOLD_AT_ONCE, "hold set at once") \
+    X(LIGHT_SETS_AT_ONCE, "light's own set commands act at once") \
+    X(OCCUPANCY_SETS_AT_ONCE, "occupancy's own set commands act at once") \
+    X(COLOUR_SETS_AT_ONCE, "colour's own set commands act at once") \
+    X(LO_SETS_AT_ONCE, "LO: set commands act at once") \
+    X(SETS_AT_ONCE_BY_FF, "set commands by FF act at once") \
+    X(SETS_AT_ONCE_DISABLED, "set commands act at once while disabled") \
+    X(SETS_AT_ONCE_FAILED, "set commands act at once in a failure") \
+    X(QUERIES_COME_TWICE, "queries answered at their repeat") \
+    X(COLOUR_QUERY_COMES_TWICE, "4B answered at its repeat") \
+    X(CATCH_COMES_TWICE, "catch movement acts at its repeat") \
+    X(CANCEL_COMES_TWICE, "cancel hold acts at its repeat") \
+    X(DTR0_LOAD_COMES_TWICE, "DTR0 loaded at the repeat") \
+    /* Configuration commands come twice (02, M-105): the same frame, in time */ \
+    X(SAME_WITHOUT_BYTE_1, "01 and FF taken for the same first byte") \
+    X(SAME_WITHOUT_BYTE_2, "repeat to another instance acts") \
+    X(SAME_WITHOUT_BYTE_3, "any second set command to the same instance acts") \
+    X(PAIR_WITHIN_0, "repeat in the same tick alone: a tick drops the first") \
+    X(PAIR_WITHIN_1, "repeat within 1 tick") \
+    X(PAIR_WITHIN_3, "repeat within 3 ticks") \
+    X(PAIR_WITHIN_20, "repeat within 20 ticks") \
+    X(PAIR_WITHIN_ANY, "repeat at any later tick") \
+    X(PAIR_IN_A_LATER_TICK, "repeat in the same tick does not count") \
+    X(PAIR_AGE_IN_A_BYTE, "ticks between the two kept in a byte") \
+    X(PAIR_AGE_IN_16_BITS, "ticks between the two kept in 16 bits") \
+    X(PAIR_TIME_WRAPS, "last tick for the repeat wraps at 32 bits") \
+    X(PAIR_COUNTS_TKS, "a TK between counts as one tick") \
+    X(SECOND_TK_DROPS_FIRST, "a second TK between drops the first") \
+    X(LONG_TK_DROPS_FIRST, "a TK of more than one tick between drops the first") \
+    X(SAMPLE_MOVES_FIRST, "a sample between: the ticks count from there") \
+    X(LATE_KEEPS_TICK, "repeat that is late leaves the first where it was") \
+    /* Configuration commands come twice (02, M-105): what drops the first */ \
+    X(SAMPLE_DROPS_FIRST, "a sample drops the first") \
+    X(OWN_SAMPLE_DROPS_FIRST, "a sample of its instance drops the first") \
+    X(EVENT_DROPS_FIRST, "an event drops the first") \
+    X(IGNORED_KEEPS_FIRST, "an opcode that the instance does not have leaves the first") \
+    X(QUERY_KEEPS_FIRST, "a query leaves the first") \
+    X(UNANSWERED_KEEPS_FIRST, "a query without an answer leaves the first") \
+    X(COLOUR_QUERY_KEEPS_FIRST, "4B leaves the first") \
+    X(CATCH_KEEPS_FIRST, "catch movement leaves the first") \
+    X(CANCEL_KEEPS_FIRST, "cancel hold leaves the first") \
+    X(DTR0_LOAD_KEEPS_FIRST, "a DTR0 load leaves the first") \
+    X(FIRST_KEEPS_DTR0, "a DTR0 load leaves the first, and the repeat takes DTR0 as it was at the first") \
+    X(NOBODY_KEEPS_FIRST, "a frame that counts for nobody leaves the first") \
+    X(UNDECLARED_KEEPS_FIRST, "a frame to an instance that is not declared leaves the first") \
+    X(OTHER_ADDRESS_KEEPS_FIRST, "a frame by another address leaves the first") \
+    X(OTHER_SET_KEEPS_FIRST, "another set command leaves the first, and is none") \
+    X(OUT_OF_RANGE_KEEPS_FIRST, "a set command with a DTR0 that it does not take leaves the first, and is none") \
+    X(OTHER_INSTANCE_KEEPS_FIRST, "a frame to another instance leaves the first, and is none") \
+    X(FIRST_PER_INSTANCE, "each instance remembers a first of its own") \
+    X(OTHER_SET_NOT_FIRST, "another set command drops the first, and is none") \
+    X(LATE_NOT_FIRST, "repeat that is late drops the first, and is none") \
+    X(REPEAT_IS_FIRST, "the repeat is a first too: the third acts") \
+    X(FIRST_NOT_FORGOTTEN, "the first stays remembered: the third acts") \
+    X(THIRD_NOT_FIRST, "the third is no first: the fourth does not act") \
+    X(REFUSED_DROPS_FIRST, "a refused record drops the first") \
+    X(REFUSED_SAMPLE_DROPS_FIRST, "a refused sample drops the first") \
+    X(CUT_DROPS_FIRST, "a cut record drops the first") \
+    X(FULL_TICK_DROPS_FIRST, "a tick without room drops the first") \
+    X(FULL_QUERY_DROPS_FIRST, "a query without room drops the first") \
+    X(CALL_FORGETS_FIRST, "reading that goes on from an earlier one's state forgets the first") \
+    /* Configuration commands come twice (02, M-105): what the first leaves */ \
+    X(FIRST_DROPS_WAITING, "the first drops waiting triggers") \
+    X(FIRST_DISABLING_DROPS_WAITING, "the first 63 drops waiting triggers") \
+    X(FIRST_FILTER_DROPS_WAITING, "the first 68 drops waiting triggers that the new filter does not allow") \
+    X(FIRST_STARTS_REPORT, "the first starts the report timer again") \
+    X(FIRST_STOPS_REPORT, "the first stops the report timer, report 0") \
+    X(FIRST_ENDS_DEAD_TIME, "the first ends a running dead time, deadtime 0") \
+    X(FIRST_UNLATCHES, "the first drops what is latched") \
+    X(FIRST_CLEARS_DTR0, "the first leaves DTR0 0") \
+    X(FIRST_NOT_ANOTHER_KIND, "the first not counted as a record of another kind than IN") \
     /* One tick */ \
     X(PRIORITY_5_NOT_ALONE, "priority 5 whenever the due report is a cause, the only one or not") \
     X(REPORT_OWN_PRIORITY, "report sent with the instance's priority") \

@@ -55,9 +55,17 @@ typedef struct {
     uint8_t latched_left; /* its bytes that query 8D has not given yet */
 } second_instance;
 
+/* A frame that acts if it comes again, "with no frame between, no more than 2 ticks later" (02, M-105) */
+typedef struct {
+    bool remembered;
+    uint8_t frame[3];
+    uint32_t tick; /* the tick number when it came */
+} second_first;
+
 typedef struct {
     uint32_t tick;
     uint8_t dtr0;
+    second_first first;
     uint8_t declared;
     bool others_read;  /* a record of another kind than IN, LO and IM was taken */
     bool table_in_use; /* the hour table (02, M-106): number 10 is given; not so in a fresh model */

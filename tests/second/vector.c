@@ -38,6 +38,8 @@ static const uint8_t TWO_RULES_SESSION[] = {
     'T', 'K', 0, 1,
     'F', 'R', 0xC1, 0x30, 25,
     'F', 'R', 0x01, 0, 0x31,
+    'F', 'R', 0x01, 0, 0x31,
+    'F', 'R', 0x01, 1, 0x31,
     'F', 'R', 0x01, 1, 0x31,
     'S', 'A', 0, 0, 0, 0, 95,
     'S', 'A', 1, 0, 0, 0, 95,
@@ -77,7 +79,9 @@ static const uint8_t MOVEMENT_SESSION[] = {
     'I', 'M', 0, 3, 2,
     'I', 'N', 1, 3, 2,
     'F', 'R', 0x01, 0, 0x21,
+    'F', 'R', 0x01, 0, 0x21,
     'F', 'R', 0xC1, 0x30, 0x17,
+    'F', 'R', 0x01, 0, 0x68,
     'F', 'R', 0x01, 0, 0x68,
     'S', 'A', 0, 0, 0, 0, 1,
     'T', 'K', 0, 1,
@@ -207,6 +211,111 @@ static const uint8_t COLOUR_REPORTS_LOG[] = {
     'A', 'N', 0, 0, 0x17, 0x72, 0, 0xFF,
 };
 
+/* M-105: light that is not ready, and presence beside it. Deadtime of light shows what acted; each query drops what is remembered.
+ *   tick 2   7: the repeat comes 2 ticks later, and acts
+ *   tick 5   9: the repeat comes 3 ticks later, and is a first, which the query drops; a query between; FF in place of 01. None
+ *            acts, and then a pair does. The third is a first again
+ *   tick 6   11: a DTR0 load drops that, and one frame alone does not act
+ *   tick 7   presence: a sample, a tick and its event lie between the two by which it is disabled, at the second
+ *   tick 9   what goes while disabled is not sent. FF and 01 do not enable it, FF twice does */
+static const uint8_t PAIRS_SESSION[] = {
+    'I', 'N', 0, 4, 8,
+    'I', 'N', 1, 3, 2,
+    'F', 'R', 0xC1, 0x30, 7,
+    'F', 'R', 0x01, 0, 0x32,
+    'T', 'K', 0, 2,
+    'F', 'R', 0x01, 0, 0x32,
+    'F', 'R', 0x01, 0, 0x3D,
+    'F', 'R', 0xC1, 0x30, 9,
+    'F', 'R', 0x01, 0, 0x32,
+    'T', 'K', 0, 3,
+    'F', 'R', 0x01, 0, 0x32,
+    'F', 'R', 0x01, 0, 0x3D,
+    'F', 'R', 0x01, 0, 0x32,
+    'F', 'R', 0x01, 0, 0x3D,
+    'F', 'R', 0x01, 0, 0x32,
+    'F', 'R', 0xFF, 0, 0x32,
+    'F', 'R', 0x01, 0, 0x3D,
+    'F', 'R', 0x01, 0, 0x32,
+    'F', 'R', 0x01, 0, 0x32,
+    'F', 'R', 0x01, 0, 0x32,
+    'T', 'K', 0, 1,
+    'F', 'R', 0xC1, 0x30, 11,
+    'F', 'R', 0x01, 0, 0x32,
+    'F', 'R', 0x01, 0, 0x3D,
+    'F', 'R', 0x01, 1, 0x63,
+    'S', 'A', 1, 0, 0, 0, 3,
+    'T', 'K', 0, 1,
+    'F', 'R', 0x01, 1, 0x63,
+    'F', 'R', 0x01, 1, 0x83,
+    'S', 'A', 1, 0, 0, 0, 0,
+    'T', 'K', 0, 2,
+    'F', 'R', 0xFF, 1, 0x62,
+    'F', 'R', 0x01, 1, 0x62,
+    'F', 'R', 0x01, 1, 0x83,
+    'F', 'R', 0xFF, 1, 0x62,
+    'F', 'R', 0xFF, 1, 0x62,
+    'F', 'R', 0x01, 1, 0x83,
+};
+static const uint8_t PAIRS_LOG[] = {
+    'A', 'N', 0, 0, 0, 2, 0, 7,
+    'A', 'N', 0, 0, 0, 5, 0, 7,
+    'A', 'N', 0, 0, 0, 5, 0, 7,
+    'A', 'N', 0, 0, 0, 5, 0, 7,
+    'A', 'N', 0, 0, 0, 6, 0, 9,
+    'E', 'V', 0, 0, 0, 7, 1, 4, 0, 0x03,
+    'A', 'N', 0, 0, 0, 7, 1, 0,
+    'A', 'N', 0, 0, 0, 9, 1, 0,
+    'A', 'N', 0, 0, 0, 9, 1, 2,
+};
+
+/* M-105: where it shows that the third of three is a first. Deadtime 5; filter 3, Occupied and Vacant, drops Movement that was
+ * caught when it is set again.
+ *   tick 1    movement: Occupied is sent, 1011. Dead time up to tick 6
+ *   tick 2    none. Catch movement, and filter 3 by a pair
+ *   tick 3    Movement is caught, and waits. Filter 3: the third, which does nothing
+ *   tick 6    Movement is sent, 1011, and catching ends. Dead time up to tick 11
+ *   tick 7    none. Catch movement, and filter 3 by a pair
+ *   tick 8    Movement is caught, and waits. Filter 3: the third
+ *   tick 10   Filter 3: the fourth, 2 ticks later, which drops Movement
+ *   tick 15   nothing was sent, and it is catching still */
+static const uint8_t THIRD_SESSION[] = {
+    'I', 'M', 0, 3, 2,
+    'F', 'R', 0xC1, 0x30, 5,
+    'F', 'R', 0x01, 0, 0x23,
+    'F', 'R', 0x01, 0, 0x23,
+    'F', 'R', 0xC1, 0x30, 3,
+    'S', 'A', 0, 0, 0, 0, 1,
+    'T', 'K', 0, 1,
+    'S', 'A', 0, 0, 0, 0, 0,
+    'T', 'K', 0, 1,
+    'F', 'R', 0x01, 0, 0x20,
+    'F', 'R', 0x01, 0, 0x68,
+    'F', 'R', 0x01, 0, 0x68,
+    'S', 'A', 0, 0, 0, 0, 1,
+    'T', 'K', 0, 1,
+    'F', 'R', 0x01, 0, 0x68,
+    'T', 'K', 0, 3,
+    'F', 'R', 0x01, 0, 0x2F,
+    'S', 'A', 0, 0, 0, 0, 0,
+    'T', 'K', 0, 1,
+    'F', 'R', 0x01, 0, 0x20,
+    'F', 'R', 0x01, 0, 0x68,
+    'F', 'R', 0x01, 0, 0x68,
+    'S', 'A', 0, 0, 0, 0, 1,
+    'T', 'K', 0, 1,
+    'F', 'R', 0x01, 0, 0x68,
+    'T', 'K', 0, 2,
+    'F', 'R', 0x01, 0, 0x68,
+    'T', 'K', 0, 5,
+    'F', 'R', 0x01, 0, 0x2F,
+};
+static const uint8_t THIRD_LOG[] = {
+    'E', 'V', 0, 0, 0, 1, 0, 4, 0, 0x0B,
+    'E', 'V', 0, 0, 0, 6, 0, 4, 0, 0x0B,
+    'A', 'N', 0, 0, 0, 15, 0, 0xFF,
+};
+
 static bool session_gives(const uint8_t *session, size_t session_len, const uint8_t *expected, size_t expected_len)
 {
     uint8_t log[256];
@@ -229,6 +338,41 @@ static bool two_rules_agree(void)
 static bool movement_agrees(void)
 {
     return session_gives(MOVEMENT_SESSION, sizeof MOVEMENT_SESSION, MOVEMENT_LOG, sizeof MOVEMENT_LOG);
+}
+
+static bool pairs_agree(void)
+{
+    return session_gives(PAIRS_SESSION, sizeof PAIRS_SESSION, PAIRS_LOG, sizeof PAIRS_LOG) &&
+           session_gives(THIRD_SESSION, sizeof THIRD_SESSION, THIRD_LOG, sizeof THIRD_LOG);
+}
+
+/* Light's deadtime by a pair of which each frame is in another call, the first at tick `from`. The first call ends in a refused
+ * record, number 7; the second begins with a TK of so many ticks, or with none. */
+static bool pair_over_calls_agrees(uint32_t from, uint8_t ticks, uint8_t deadtime)
+{
+    static const uint8_t first[] = {
+        'I', 'N', 0, 4, 8, 'F', 'R', 0xC1, 0x30, 7, 'F', 'R', 1, 0, 0x32, 'T', 'K', 0, 0,
+    };
+    const uint8_t rest[] = {'T', 'K', 0, ticks, 'F', 'R', 1, 0, 0x32, 'F', 'R', 1, 0, 0x3D};
+    size_t skipped = ticks == 0 ? 4 : 0;
+    uint32_t at = from + ticks;
+    const uint8_t expected[8] = {'A', 'N', (uint8_t)(at >> 24), (uint8_t)(at >> 16), (uint8_t)(at >> 8), (uint8_t)at, 0, deadtime};
+    uint8_t log[8];
+    second_model model;
+    second_fresh(&model);
+    model.tick = from;
+    second_reading r = second_read(&model, first, sizeof first, log, sizeof log);
+    if (r.number != 7 || r.offset != sizeof first - 4 || r.written != 0) return false;
+    r = second_read(&model, rest + skipped, sizeof rest - skipped, log, sizeof log);
+    return r.number == 0 && r.written == 8 && memcmp(log, expected, 8) == 0;
+}
+
+/* 30 is deadtime at the start. */
+static bool pairs_over_calls_agree(void)
+{
+    return pair_over_calls_agrees(0, 0, 7) && pair_over_calls_agrees(0, 2, 7) && pair_over_calls_agrees(0, 3, 30) &&
+           pair_over_calls_agrees(4294967295u, 0, 7) && pair_over_calls_agrees(4294967293u, 2, 7) &&
+           pair_over_calls_agrees(4294967292u, 3, 30) && pair_over_calls_agrees(4294967294u, 1, 7);
 }
 
 /* "Marked table": Width and Information, as a light instance shows them. `marked` is inputValue and then the information. */
@@ -265,10 +409,10 @@ static bool colour_agrees(void)
 static bool sensor_table_agrees(void)
 {
     static const uint8_t answers[] = {187, 175, 162, 137, 125, 100, 112, 87, 75, 1, 84, 1, 104, 0, 200, 16};
-    uint8_t session[5 + 5 * 16 + 10] = {'I', 'N', 0, 5, 24}, expected[8 * sizeof answers];
-    for (unsigned i = 0; i < 18; i++) memcpy(session + 5 + 5 * i, (const uint8_t[]){'F', 'R', 0x01, 0, 0x4B}, 5);
-    session[5 + 5 * 16 + 4] = 0x43;
-    session[5 + 5 * 17 + 4] = 0x4C;
+    uint8_t session[5 + 5 * 16 + 15] = {'I', 'N', 0, 5, 24}, expected[8 * sizeof answers];
+    for (unsigned i = 0; i < 19; i++) memcpy(session + 5 + 5 * i, (const uint8_t[]){'F', 'R', 0x01, 0, 0x4B}, 5);
+    session[5 + 5 * 16 + 4] = session[5 + 5 * 17 + 4] = 0x43;
+    session[5 + 5 * 18 + 4] = 0x4C;
     for (unsigned i = 0; i < sizeof answers; i++)
         memcpy(expected + 8 * i, (const uint8_t[]){'A', 'N', 0, 0, 0, 0, 0, answers[i]}, 8);
     return session_gives(session, sizeof session, expected, sizeof expected);
@@ -333,6 +477,7 @@ int main(void)
     good = report("IM, worked out by hand", movement_agrees()) && good;
     good = report("colour: document 003's example, and reports", colour_agrees()) && good;
     good = report("colour: document 003's tables", sensor_table_agrees() && colour_values_agree()) && good;
+    good = report("pairs, worked out by hand", pairs_agree() && pairs_over_calls_agree()) && good;
     good = report("1000 sessions in pieces", pieces_agree(1000)) && good;
     return good ? 0 : 1;
 }

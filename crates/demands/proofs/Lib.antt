@@ -7,4 +7,5 @@ pub mod Hours
 pub mod Streams
 pub mod Texts
 pub mod Movement
+pub mod Pairs
 pub mod Unique

@@ -3,38 +3,22 @@
 -- Assumes nothing.
 use Prim.Native.Nat.{ℕ, suc, _+_, _-_, _<_, _≤_}
 use Rattle.command.proofs.Moving.{act-area, act-owed}
-use Rattle.demands.proofs.Shared.OneInstance.{frame-own, happen-present, held-own, ticked-own}
+use Rattle.demands.proofs.Shared.OneInstance.{declared-kind, frame-own, happen-present, held-kind, ticked-own}
 use Rattle.demands.specs.Alone.{Present}
 use Rattle.demands.specs.Happenings.{Happening, declare, frame, happen, hold, modelAfter, tick, ticksIn}
 use Rattle.demands.specs.Movement.{StillAll, UncaughtAll, movementsSent}
-use Rattle.device.proofs.Laws.{declared-other, held-other}
-use Rattle.device.specs.Device.{heldModel, instanceAt}
+use Rattle.device.specs.Device.{instanceAt}
 use Rattle.device.specs.declared.model.Model.{Model}
 use Rattle.sensor.proofs.Catching.{owed-most, tick-owed}
 use Rattle.sensor.proofs.Hold.{tick-expires, tick-holds, tick-stills}
-use Rattle.sensor.proofs.Laws.{holding-keeps}
 use Rattle.sensor.specs.Movement.{holdTime}
 use Rattle.sensor.specs.Moving.{Area, moves, owed}
 use Rattle.sensor.specs.Tick.{valid}
-use Rattle.sensor.specs.declared.sensors.Sensor.{Sensor}
-use Rattle.sensor.specs.declared.settings.Sample.{Sample}
 use Rattle.ticks.specs.Tick.{tickModel}
 use mathlib.Core.Bool.{false, true}
 use mathlib.Core.List.{List, [], _++_, _∷_}
-use mathlib.Core.Path.{ap, refl, subst, _∙_, _≡_}
-use native.Mathlib.Decide.{ℕ-discrete}
+use mathlib.Core.Path.{refl, subst, _≡_}
 use native.Mathlib.Omega.{arith}
-
--- ---- a declaration and a sample leave the sensor of instance i
-declared-kind : {i : ℕ} {m : Model} (sensor : Sensor) → Present i m → instanceAt (happen m (declare sensor)) i .kind ≡ instanceAt m i .kind
-declared-kind {i} {m} sensor p = ap (λ x. x .kind) (declared-other m sensor i (λ e. omega (arith, p .declared)))
-
-held-kind : {i : ℕ} {m : Model} (j : ℕ) (sample : Sample) → Present i m → instanceAt (happen m (hold j sample)) i .kind ≡ instanceAt m i .kind
-held-kind {i} {m} j sample p = go (ℕ-discrete i j)
-  where
-    go : Dec (i ≡ j) → instanceAt (heldModel m j sample) i .kind ≡ instanceAt m i .kind
-    go (yes e) = rw (← e) (ap (λ x. x .kind) (held-own sample p) ∙ holding-keeps (instanceAt m i) sample .1)
-    go (no n) = ap (λ x. x .kind) (held-other m j sample i n)
 
 -- ---- THE HOLD TIME
 -- it starts at the tick that goes from 0xFF to 0xAA

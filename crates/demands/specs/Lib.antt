@@ -6,3 +6,4 @@ pub mod Numbers
 pub mod Streams
 pub mod Texts
 pub mod Movement
+pub mod Pairs

@@ -89,6 +89,9 @@ module _ (m : Model) (sensor : Sensor) where
   pub declared-running : declaredModel m sensor .running ≡ m .running
   declared-running = declared-by (λ (x : Model). x .running ≡ m .running) refl refl
 
+  pub declared-remembered : declaredModel m sensor .remembered ≡ m .remembered
+  declared-remembered = declared-by (λ (x : Model). x .remembered ≡ m .remembered) refl refl
+
   pub declared-length : length (declaredModel m sensor .instances) ≡ length (m .instances)
   declared-length =
       declared-by (λ (x : Model). length (x .instances) ≡ length (m .instances))

@@ -2,9 +2,9 @@
 -- Assumes nothing.
 use Prim.Native.Nat.{ℕ, suc, _+_, _/_, _≤_, max}
 use Rattle.demands.proofs.Demand3.AfterEvent.{logged-here, spaced-run}
-use Rattle.demands.proofs.Demand3.WindowEvents.{Within, log-cut, more, none, run-ticks, run-within, window-events}
+use Rattle.demands.proofs.Demand3.WindowEvents.{Within, log-cut, more, none, run-within, window-events}
 use Rattle.demands.proofs.Shared.EventsInLog.{events-append}
-use Rattle.demands.proofs.Shared.OneInstance.{happen-tick}
+use Rattle.demands.proofs.Shared.OneInstance.{happen-tick, run-ticks}
 use Rattle.demands.proofs.Shared.Runs.{calls-log}
 use Rattle.demands.specs.Happenings.{Call, bytesWritten, logAfter, modelAfter, tick}
 use Rattle.demands.specs.Window.{D, R, Window, between, deviceAfter, deviceBefore, events, eventsOf, last, n}

@@ -3,7 +3,7 @@
 -- Assumes nothing.
 use Prim.Native.Nat.{ℕ, suc, _+_, _<_, _≤_}
 use Rattle.demands.proofs.Shared.EventsInLog.{events-append, events-frame}
-use Rattle.demands.proofs.Shared.OneInstance.{happen-tick}
+use Rattle.demands.proofs.Shared.OneInstance.{happen-tick, run-ticks, ticks-cons}
 use Rattle.demands.proofs.Shared.Runs.{calls-log, log-append}
 use Rattle.demands.specs.Alone.{rises}
 use Rattle.demands.specs.Happenings.{Call, Happening, carriedOut, declare, frame, happen, hold, logAfter, logs, modelAfter, tick, ticksIn}
@@ -21,7 +21,6 @@ use lib.ListN.{take}
 use mathlib.Core.Bool.{Bool, and-false, false, true, _&&_}
 use mathlib.Core.List.{List, [], append-assoc, append-nil, _++_, _∷_}
 use mathlib.Core.Path.{ap, refl, sym, _∙_, _≡_}
-use native.Mathlib.Nat.{add-zero}
 use native.Mathlib.Omega.{arith}
 
 -- ---- ticks above one number and up to another
@@ -74,20 +73,7 @@ unfolding sweepLog eventsOf
 sweep-within now i j [] = none
 sweep-within now i j (x ∷ xs) = rw events-append (within-append (sent-within now i j (ticked x .sent)) (sweep-within now i (suc j) xs))
 
--- ---- the tick number
-ticks-cons : (h : Happening) (hs : List Happening) → ticksIn (h ∷ hs) ≡ rises h + ticksIn hs
-unfolding ticksIn
-ticks-cons (declare sensor) hs = omega arith
-ticks-cons (hold i sample) hs = omega arith
-ticks-cons (frame first second third) hs = omega arith
-ticks-cons tick hs = omega arith
-
--- TICKS CARRIED OUT ARE THE RISE OF THE TICK NUMBER
-pub run-ticks : (m : Model) (hs : List Happening) → modelAfter m hs .tick ≡ m .tick + ticksIn hs
-unfolding modelAfter ticksIn
-run-ticks m [] = sym (add-zero (m .tick))
-run-ticks m (h ∷ hs) = omega (arith, run-ticks (happen m h) hs, happen-tick m h, ticks-cons h hs)
-
+-- ---- the events of a run
 logs-within : (i : ℕ) (m : Model) (h : Happening) → Within (m .tick) (m .tick + rises h) (eventsOf i (logs m h))
 unfolding eventsOf tickLog
 logs-within i m (declare sensor) = none

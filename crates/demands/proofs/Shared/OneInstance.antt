@@ -3,17 +3,18 @@
 use Prim.Native.Nat.{ℕ, _+_, _≤_}
 use Rattle.command.specs.Answering.{acted, countedUp}
 use Rattle.demands.specs.Alone.{Present, asksColour, loadsDtr0, rises}
-use Rattle.demands.specs.Happenings.{Happening, declare, frame, happen, hold, modelAfter, tick}
+use Rattle.demands.specs.Happenings.{Happening, declare, frame, happen, hold, modelAfter, tick, ticksIn}
 use Rattle.demands.specs.Window.{setsIt}
 use Rattle.device.proofs.Instances.{declared-more, held-at, numbered-by}
-use Rattle.device.proofs.Laws.{declared-dtr0, declared-last, declared-length, declared-tick, frame-counted, frame-counts, frame-declared, frame-dtr0, frame-first, frame-ignored, frame-last, frame-length, frame-loads, frame-tick, held-declared, held-length, numbered-other}
+use Rattle.device.proofs.Laws.{declared-dtr0, declared-last, declared-length, declared-other, declared-tick, frame-counted, frame-counts, frame-declared, frame-dtr0, frame-first, frame-ignored, frame-last, frame-length, frame-loads, frame-tick, held-declared, held-length, held-other, numbered-other}
 use Rattle.device.specs.Device.{heldModel, instanceAt}
 use Rattle.device.specs.Frame.{again, counts, frameModel, loads, numberedModel, sets}
 use Rattle.device.specs.declared.model.Model.{Model}
 use Rattle.opcode.proofs.Opcodes.{counts-up}
-use Rattle.sensor.proofs.Laws.{both}
+use Rattle.sensor.proofs.Laws.{both, holding-keeps}
 use Rattle.sensor.specs.Tick.{holding, ticked}
 use Rattle.sensor.specs.declared.instance.Instance.{Instance}
+use Rattle.sensor.specs.declared.sensors.Sensor.{Sensor}
 use Rattle.sensor.specs.declared.settings.Sample.{Sample}
 use Rattle.ticks.proofs.Laws.{tick-declared, tick-last, tick-length}
 use Rattle.ticks.proofs.Ticked.{tick-at}
@@ -71,7 +72,7 @@ module _ (m : Model) where
   happen-length (frame first second third) = frame-length m first second third
   happen-length tick = tick-length m
 
-  happen-count : (h : Happening) → m .declared ≤ happen m h .declared
+  pub happen-count : (h : Happening) → m .declared ≤ happen m h .declared
   happen-count (declare sensor) = declared-more m sensor
   happen-count (hold i sample) = omega (arith, held-declared m i sample)
   happen-count (frame first second third) = omega (arith, frame-declared m first second third)
@@ -93,9 +94,34 @@ unfolding modelAfter
 run-last m [] = refl
 run-last m (h ∷ hs) = run-last (happen m h) hs ∙ last-kept m h
 
+-- ---- the tick number
+pub ticks-cons : (h : Happening) (hs : List Happening) → ticksIn (h ∷ hs) ≡ rises h + ticksIn hs
+unfolding ticksIn
+ticks-cons (declare sensor) hs = omega arith
+ticks-cons (hold i sample) hs = omega arith
+ticks-cons (frame first second third) hs = omega arith
+ticks-cons tick hs = omega arith
+
+-- TICKS CARRIED OUT ARE THE RISE OF THE TICK NUMBER
+pub run-ticks : (m : Model) (hs : List Happening) → modelAfter m hs .tick ≡ m .tick + ticksIn hs
+unfolding modelAfter ticksIn
+run-ticks m [] = sym (add-zero (m .tick))
+run-ticks m (h ∷ hs) = omega (arith, run-ticks (happen m h) hs, happen-tick m h, ticks-cons h hs)
+
 -- ---- SA, of an instance that is there
 pub held-own : {i : ℕ} {m : Model} (sample : Sample) → Present i m → instanceAt (heldModel m i sample) i ≡ holding (instanceAt m i) sample
 held-own {i} {m} sample p = held-at m i sample (p .listed)
+
+-- ---- a declaration and a sample leave the sensor of instance i
+pub declared-kind : {i : ℕ} {m : Model} (sensor : Sensor) → Present i m → instanceAt (happen m (declare sensor)) i .kind ≡ instanceAt m i .kind
+declared-kind {i} {m} sensor p = ap (λ x. x .kind) (declared-other m sensor i (λ e. omega (arith, p .declared)))
+
+pub held-kind : {i : ℕ} {m : Model} (j : ℕ) (sample : Sample) → Present i m → instanceAt (happen m (hold j sample)) i .kind ≡ instanceAt m i .kind
+held-kind {i} {m} j sample p = go (ℕ-discrete i j)
+  where
+    go : Dec (i ≡ j) → instanceAt (heldModel m j sample) i .kind ≡ instanceAt m i .kind
+    go (yes e) = rw (← e) (ap (λ x. x .kind) (held-own sample p) ∙ holding-keeps (instanceAt m i) sample .1)
+    go (no n) = ap (λ x. x .kind) (held-other m j sample i n)
 
 -- ---- FR: what a frame leaves of instance i is as it was or, where it counts for it, as byte 3 leaves it
 pub frame-own : (P : Instance → Type 0) (i : ℕ) (m : Model) (first second third : ℕ) → P (instanceAt m i)

@@ -2,7 +2,7 @@
 -- Assumes nothing.
 use Prim.Native.Nat.{ℕ, zero, suc, _+_, _-_, _<_, _≤_}
 use Rattle.demands.proofs.Shared.ByRecords.{by-records}
-use Rattle.demands.specs.Happenings.{Call, Happening, bytesWritten, carried, carriedIn, carriedOut, frame, happen, logAfter, logs, modelAfter, tick, asksFor}
+use Rattle.demands.specs.Happenings.{Call, Happening, bytesWritten, carried, carriedIn, carriedOut, frame, happen, logAfter, logs, modelAfter, modelLeft, tick, asksFor}
 use Rattle.demands.specs.Stands.{behind}
 use Rattle.device.specs.Frame.{frameLog, frameModel}
 use Rattle.device.specs.declared.model.Model.{Model}
@@ -24,7 +24,7 @@ use mathlib.Core.Path.{ap, ap₂, refl, sym, _∙_, _≡_}
 use native.Mathlib.Omega.{arith}
 
 -- ---- one run behind another
-model-append : (m : Model) (gs hs : List Happening) → modelAfter m (gs ++ hs) ≡ modelAfter (modelAfter m gs) hs
+pub model-append : (m : Model) (gs hs : List Happening) → modelAfter m (gs ++ hs) ≡ modelAfter (modelAfter m gs) hs
 unfolding modelAfter
 model-append m [] hs = refl
 model-append m (g ∷ gs) hs = model-append (happen m g) gs hs
@@ -146,7 +146,16 @@ session-model m xs room = sym (ran m xs room .model)
 pub session-log : (m : Model) (xs : List ℕ) (room : ℕ) → session m xs room .log ≡ logAfter m (carried m xs room)
 session-log m xs room = sym (ran m xs room .logged)
 
--- SEVERAL CALLS ARE A RUN of what they carried out, and the bytes that they wrote are its log
+-- SEVERAL CALLS ARE A RUN of what they carried out
+pub calls-model : (m : Model) (cs : List Call) → modelLeft m cs ≡ modelAfter m (carriedOut m cs)
+unfolding modelLeft carriedOut modelAfter
+calls-model m [] = refl
+calls-model m (c ∷ cs) =
+    calls-model (session m (c .input) (c .room) .model) cs
+    ∙ ap (λ k. modelAfter k (carriedOut (session m (c .input) (c .room) .model) cs)) (session-model m (c .input) (c .room))
+    ∙ sym (model-append m (carried m (c .input) (c .room)) (carriedOut (session m (c .input) (c .room) .model) cs))
+
+-- and the bytes that they wrote are its log
 calls-bytes : (m : Model) (cs : List Call) → bytesWritten m cs ≡ bytesOf (logAfter m (carriedOut m cs))
 unfolding bytesWritten carriedOut logAfter bytesOf
 calls-bytes m [] = refl
