@@ -4,7 +4,7 @@ use Prim.Native.Nat.{ℕ, _+_, _<_, _≤_}
 use Rattle.command.proofs.Laws.{dtr0-counted, dtr0-left, setting-silent}
 use Rattle.command.specs.Answering.{countedUp}
 use Rattle.device.specs.Device.{underWay, declaredModel, fresh, heldModel, instanceAt, known, offered, withDeclared, withDtr0, withInstance}
-use Rattle.device.specs.Frame.{actedAt, again, answerLog, counts, forgetting, frameLog, frameModel, heeded, judged, loads, numberedLog, numberedModel, remembering, sets}
+use Rattle.device.specs.Frame.{actedAt, again, answerLog, asRepeat, counts, forgetting, frameLog, frameModel, heeded, judged, loads, numberedLog, numberedModel, remembering, sets}
 use Rattle.device.specs.declared.judged.Judged.the-variants.{Acts, Load, Nobody, Sets}
 use Rattle.device.specs.declared.judged.Judged.{Judged}
 use Rattle.device.specs.declared.model.Model.{Model}
@@ -198,13 +198,6 @@ pub numbered-silent : (m : Model) (i opcode : ℕ) → sets m i opcode ≡ true 
 unfolding numberedLog answerLog
 numbered-silent m i opcode s = ap (λ a. answerLog (m .tick) i a) (setting-silent (instanceAt m i) opcode (m .dtr0) s)
 
--- what each way of judging it tells
-abbrev pub Told : Model → (first second third : ℕ) → Judged → Type 0
-Told m first second third Load = loads first second ≡ true
-Told m first second third (Sets i) = (i ≡ second) × (loads first second ≡ false) × (counts m first second ≡ true) × (sets m second third ≡ true)
-Told m first second third (Acts i) = (i ≡ second) × (loads first second ≡ false) × (counts m first second ≡ true) × (sets m second third ≡ false)
-Told m first second third Nobody = (loads first second ≡ false) × (counts m first second ≡ false)
-
 module _ (m : Model) (first second third : ℕ) where
   -- the four ways of a frame, and when it goes them
   pub judged-by : (P : Judged → Type 0)
@@ -223,36 +216,33 @@ module _ (m : Model) (first second third : ℕ) where
       go false l true c false e = act l c e
       go false l false c s e = nobody l c
 
-  pub judged-told : Told m first second third (judged m first second third)
-  judged-told = judged-by (Told m first second third) (λ l. l) (λ l c s. (refl, l, c, s)) (λ l c s. (refl, l, c, s)) (λ l c. (l, c))
-
   -- what it leaves of the device
   pub frame-by : (P : Model → Type 0)
       → P (forgetting (underWay (withDtr0 third m))) → P (forgetting (numberedModel m second third))
       → P (remembering first second third (underWay m)) → P (forgetting (underWay m))
       → P (frameModel m first second third)
-  unfolding frameModel heeded
-  frame-by P load acts waits ignore = judged-by (λ j. P (heeded m first second third j)) (λ l. load) (λ l c s. go (again m first second third)) (λ l c s. acts) (λ l c. ignore)
+  unfolding frameModel heeded asRepeat
+  frame-by P load acts waits ignore =
+      judged-by (λ j. P (heeded m first second third (asRepeat j (again m first second third)))) (λ l. load) (λ l c s. go (again m first second third)) (λ l c s. acts) (λ l c. ignore)
     where
-      go : (r : Bool) → P (cond r (forgetting (numberedModel m second third)) (remembering first second third (underWay m)))
+      go : (r : Bool) → P (heeded m first second third (cond r (Acts second) (Sets second)))
       go true = acts
       go false = waits
 
+  -- judged so, it leaves this
+  heeded-as : {j : Judged} → judged m first second third ≡ j → frameModel m first second third ≡ heeded m first second third (asRepeat j (again m first second third))
+  unfolding frameModel
+  heeded-as e = ap (λ j. heeded m first second third (asRepeat j (again m first second third))) e
+
   pub frame-loads : loads first second ≡ true
       → (frameModel m first second third ≡ forgetting (underWay (withDtr0 third m))) × (frameLog m first second third ≡ [])
-  unfolding frameModel frameLog judged heeded
-  frame-loads l = (ap (λ j. heeded m first second third j) (go l), rw l)
-    where
-      go : loads first second ≡ true → judged m first second third ≡ Load
-      go e = rw e
+  unfolding frameLog judged heeded asRepeat
+  frame-loads l = (heeded-as {j = Load} (rw l), rw l)
 
   pub frame-ignored : loads first second ≡ false → counts m first second ≡ false
       → (frameModel m first second third ≡ forgetting (underWay m)) × (frameLog m first second third ≡ [])
-  unfolding frameModel frameLog judged heeded
-  frame-ignored l k = (ap (λ j. heeded m first second third j) go, rw (l, k))
-    where
-      go : judged m first second third ≡ Nobody
-      go = rw (l, k)
+  unfolding frameLog judged heeded asRepeat
+  frame-ignored l k = (heeded-as {j = Nobody} (rw (l, k)), rw (l, k))
 
   module _ (l : loads first second ≡ false) (k : counts m first second ≡ true) where
     pub frame-answers : frameLog m first second third ≡ numberedLog m second third
@@ -261,29 +251,24 @@ module _ (m : Model) (first second third : ℕ) where
 
     -- what is no setting command acts at once
     pub frame-acts : sets m second third ≡ false → frameModel m first second third ≡ forgetting (numberedModel m second third)
-    unfolding frameModel judged heeded
-    frame-acts s = ap (λ j. heeded m first second third j) go
-      where
-        go : judged m first second third ≡ Acts second
-        go = rw (l, k, s)
+    unfolding judged heeded asRepeat
+    frame-acts s = heeded-as {j = Acts second} (rw (l, k, s))
 
     -- M-105: a setting command acts at its repeat, and is remembered before
-    pub frame-sets : sets m second third ≡ true
-        → frameModel m first second third
-        ≡ cond (again m first second third) (forgetting (numberedModel m second third)) (remembering first second third (underWay m))
-    unfolding frameModel judged heeded
-    frame-sets s = ap (λ j. heeded m first second third j) go
-      where
-        go : judged m first second third ≡ Sets second
-        go = rw (l, k, s)
+    frame-sets : sets m second third ≡ true → {again′ : Bool} → again m first second third ≡ again′
+        → frameModel m first second third ≡ heeded m first second third (cond again′ (Acts second) (Sets second))
+    unfolding judged asRepeat
+    frame-sets s r = heeded-as {j = Sets second} (rw (l, k, s)) ∙ ap (λ b. heeded m first second third (cond b (Acts second) (Sets second))) r
 
     pub frame-repeats : sets m second third ≡ true → again m first second third ≡ true
         → frameModel m first second third ≡ forgetting (numberedModel m second third)
-    frame-repeats s r = frame-sets s ∙ rw r
+    unfolding heeded
+    frame-repeats s r = frame-sets s r
 
     pub frame-first : sets m second third ≡ true → again m first second third ≡ false
         → frameModel m first second third ≡ remembering first second third (underWay m)
-    frame-first s r = frame-sets s ∙ rw r
+    unfolding heeded
+    frame-first s r = frame-sets s r
 
     -- so what counts is as byte 3 leaves it, or only remembered
     pub frame-counts : (P : Model → Type 0) → P (forgetting (numberedModel m second third)) → P (remembering first second third (underWay m))

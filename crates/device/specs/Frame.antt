@@ -74,16 +74,22 @@ remembering first second third m = withRemembered (First first second third (m .
 abbrev pub forgetting : Model → Model
 forgetting m = withRemembered Nothing m
 
+-- a setting command that is the repeat acts
+unfoldable pub asRepeat : Judged → (repeat : Bool) → Judged
+asRepeat Load repeat = Load
+asRepeat (Sets i) repeat = cond repeat (Acts i) (Sets i)
+asRepeat (Acts i) repeat = Acts i
+asRepeat Nobody repeat = Nobody
+
 -- the device after a frame that is judged so; one that is ignored is taken, with no change
 unfoldable pub heeded : Model → (first second third : ℕ) → Judged → Model
 heeded m first second third Load = forgetting (underWay (withDtr0 third m))
-heeded m first second third (Sets i) =
-    cond (again m first second third) (forgetting (numberedModel m i third)) (remembering first second third (underWay m))
+heeded m first second third (Sets i) = remembering first second third (underWay m)
 heeded m first second third (Acts i) = forgetting (numberedModel m i third)
 heeded m first second third Nobody = forgetting (underWay m)
 
 unfoldable pub frameModel : Model → (first second third : ℕ) → Model
-frameModel m first second third = heeded m first second third (judged m first second third)
+frameModel m first second third = heeded m first second third (asRepeat (judged m first second third) (again m first second third))
 
 -- what it logs is the answer of the instance that it counts for; a setting command has none, neither at the first frame nor at the repeat
 unfoldable pub frameLog : Model → (first second third : ℕ) → List Logged

@@ -1,7 +1,7 @@
 // M-105: a frame is judged before it acts.
 use crate::model::Model;
 use crate::model::known;
-ghost use Rattle.device.specs.Frame.{judged};
+ghost use Rattle.device.specs.Frame.{asRepeat, judged};
 ghost use mathlib.Core.Path.{_≡_};
 
 // Whom a frame counts for, what it means there, and so whether it needs its repeat.
@@ -14,6 +14,25 @@ pub enum Judged {
     Acts(u8),
     // It is ignored.
     Nobody,
+}
+
+impl Judged {
+    // A setting command that is the repeat acts.
+    pub fn as_repeat(self, repeat: bool) -> Judged
+        ensures { λ r. ⌜ r ≡ asRepeat self repeat ⌝ }
+    {
+        match self {
+            Judged::Load => Judged::Load,
+            Judged::Sets(instance) => {
+                if repeat {
+                    return Judged::Acts(instance);
+                }
+                Judged::Sets(instance)
+            }
+            Judged::Acts(instance) => Judged::Acts(instance),
+            Judged::Nobody => Judged::Nobody,
+        }
+    }
 }
 
 pub fn judge(model: Model, first: u8, second: u8, third: u8) -> Judged

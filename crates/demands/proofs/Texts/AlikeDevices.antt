@@ -6,7 +6,7 @@ use Rattle.command.specs.Answering.{acted, leaving}
 use Rattle.demands.specs.Texts.{Alike, AllInRange, modelAsIN}
 use Rattle.device.proofs.Laws.{frame-by}
 use Rattle.device.specs.Device.{allowed, declaredModel, fresh, heldModel, instanceAt, known, underWay, withDeclared, withDtr0, withInstance, withInstances, withTick}
-use Rattle.device.specs.Frame.{again, answerLog, counts, forgetting, frameLog, frameModel, heeded, judged, loads, numberedLog, numberedModel, putBack, remembering}
+use Rattle.device.specs.Frame.{again, answerLog, asRepeat, counts, forgetting, frameLog, frameModel, heeded, judged, loads, numberedLog, numberedModel, putBack}
 use Rattle.device.specs.declared.judged.Judged.the-variants.{Acts, Load, Nobody, Sets}
 use Rattle.device.specs.declared.judged.Judged.{Judged}
 use Rattle.device.specs.declared.model.Model.{Model}
@@ -97,22 +97,18 @@ module _ (m : Model) where
 
   frame-as : (first second third : ℕ) → frameModel (modelAsIN m) first second third ≡ modelAsIN (frameModel m first second third)
   unfolding frameModel heeded numberedModel
-  frame-as first second third = ap (λ j. heeded (modelAsIN m) first second third j) (judged-as first second third) ∙ go (judged m first second third)
+  frame-as first second third =
+      ap (λ j. heeded (modelAsIN m) first second third (asRepeat j (again m first second third))) (judged-as first second third)
+      ∙ go (asRepeat (judged m first second third) (again m first second third))
     where
       number : (i : ℕ) → numberedModel (modelAsIN m) i third ≡ modelAsIN (numberedModel m i third)
       number i =
           ap (λ a. underWay (putBack i a (modelAsIN m))) (acted-as i third)
           ∙ ap (λ xs. underWay (withDtr0 (acted (instanceAt m i) third (m .dtr0) .dtr0) (withInstances xs m))) (set-as (m .instances) i (acted (instanceAt m i) third (m .dtr0) .instance))
 
-      pair : (i : ℕ) (b : Bool)
-          → cond b (forgetting (numberedModel (modelAsIN m) i third)) (remembering first second third (underWay (modelAsIN m)))
-          ≡ modelAsIN (cond b (forgetting (numberedModel m i third)) (remembering first second third (underWay m)))
-      pair i true = ap forgetting (number i)
-      pair i false = refl
-
       go : (j : Judged) → heeded (modelAsIN m) first second third j ≡ modelAsIN (heeded m first second third j)
       go Load = refl
-      go (Sets i) = pair i (again m first second third)
+      go (Sets i) = refl
       go (Acts i) = ap forgetting (number i)
       go Nobody = refl
 
