@@ -127,6 +127,11 @@ module _ (m : Model) (i : ℕ) (sample : Sample) where
   unfolding heldModel
   held-dtr0 = refl
 
+  -- M-105: a sample is no frame
+  pub held-remembered : heldModel m i sample .remembered ≡ m .remembered
+  unfolding heldModel
+  held-remembered = refl
+
   pub held-declared : heldModel m i sample .declared ≡ m .declared
   unfolding heldModel
   held-declared = refl

@@ -6,8 +6,8 @@ use Rattle.demands.proofs.Shared.OneInstance.{declared-kind, happen-cou
 use Rattle.demands.specs.Alone.{Present}
 use Rattle.demands.specs.Happenings.{Happening, declare, frame, happen, hold, modelAfter, tick}
 use Rattle.demands.specs.Pairs.{NoFrame}
-use Rattle.device.proofs.Laws.{below-known, counts-known, declared-remembered, known-below}
-use Rattle.device.specs.Device.{heldModel, instanceAt}
+use Rattle.device.proofs.Laws.{below-known, counts-known, declared-remembered, held-remembered, known-below}
+use Rattle.device.specs.Device.{instanceAt}
 use Rattle.device.specs.Frame.{counts, sets}
 use Rattle.device.specs.declared.model.Model.{Model}
 use Rattle.opcode.specs.Meaning.{isSetting, meant}
@@ -53,10 +53,10 @@ meant-ticked x n = meant-after (decisionAt x) (takenKind x) (x .settings) n ∙ 
 
 -- ---- what is remembered
 pub remembered-between : (m : Model) (hs : List Happening) → NoFrame hs → modelAfter m hs .remembered ≡ m .remembered
-unfolding modelAfter heldModel tickModel
+unfolding modelAfter tickModel
 remembered-between m [] none = refl
 remembered-between m (declare sensor ∷ hs) none = remembered-between (happen m (declare sensor)) hs none ∙ declared-remembered m sensor
-remembered-between m (hold i sample ∷ hs) none = remembered-between (happen m (hold i sample)) hs none
+remembered-between m (hold i sample ∷ hs) none = remembered-between (happen m (hold i sample)) hs none ∙ held-remembered m i sample
 remembered-between m (frame a b c ∷ hs) none = absurd none
 remembered-between m (tick ∷ hs) none = remembered-between (happen m tick) hs none
 
