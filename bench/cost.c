@@ -58,13 +58,14 @@ static void put_samples(session *s, unsigned instances, uint8_t high)
 static void declare(session *s, unsigned instances, bool at_once)
 {
     for (unsigned i = 0; i < instances; i++) PUT(s, 'I', 'N', (uint8_t)i, LIGHT, RESOLUTION);
-    for (unsigned i = 0; i < instances && at_once; i++) PUT(s, 'F', 'R', 0x01, (uint8_t)i, 0x32);
+    /* deadtime from DTR0, 0: twice, then it acts (M-105) */
+    for (unsigned i = 0; i < 2 * instances && at_once; i++) PUT(s, 'F', 'R', 0x01, (uint8_t)(i / 2), 0x32);
 }
 
 static session make(unsigned instances, const load *l, unsigned long ticks)
 {
     unsigned long every = l->every == 0 ? ticks : l->every, rounds = ticks / every;
-    size_t declaring = (IN_SIZE + FR_SIZE) * (size_t)instances;
+    size_t declaring = (IN_SIZE + 2 * FR_SIZE) * (size_t)instances;
     session s = {malloc(declaring + rounds * (SA_SIZE * instances + TK_SIZE * (every / TK_MOST + 1))), 0};
     declare(&s, instances, l->at_once);
     for (unsigned long round = 0; round < rounds; round++) {

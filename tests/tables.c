@@ -187,8 +187,11 @@ static bool parts_well(tabling which, const part_vector *v)
 
 /* ---- By hand: sessions to the end of the table, with one light that sends where its value changes ---- */
 
-/* Resolution 8, dead time and report 0, value 200; and then TKs that leave 48,180 ticks up to 3,456,000. */
-#define BEGINNING "494E 00 04 08 4652 C1 30 00 4652 01 00 32 4652 01 00 30 5341 00 00 0000C8 "
+/* Resolution 8, dead time and report 0 (each set by a frame that comes twice: M-105), value 200; and then TKs that leave 48,180
+ * ticks up to 3,456,000. */
+#define DEADTIME "4652 01 00 32 "
+#define REPORT "4652 01 00 30 "
+#define BEGINNING "494E 00 04 08 4652 C1 30 00 " DEADTIME DEADTIME REPORT REPORT "5341 00 00 0000C8 "
 #define TK_REST "544B BC34 "
 #define TK_REST_1 "544B BC35 "
 #define TK_1 "544B 0001 "

@@ -2,6 +2,7 @@
 -- held sample valid at every tick, no setting command reaching it. D is its dead time in ticks, R the larger of D and its report time.
 -- Whatever is sampled and whatever other traffic passes, the next n ticks carried out hold at least n / R and at most n / max(D, 1) of its
 -- events, both rounded down, and no n of such ticks leaves a gap above R."
+-- (M-105: a pair is the setting command, at its second frame, and a first half ends no window: `pair-sets`, `half-in-window` in `Pairs`.)
 -- Assumes nothing.
 mod AfterEvent
 mod FirstEvent

@@ -36,8 +36,8 @@ abbrev pub R : Instance → ℕ
 R x = reportTime (rulesOf x)
 
 -- ---- "its held sample valid at every tick, no setting command reaching it"
--- a frame that counts for instance i, and means a setting command to it, as the repeat of the frame that the device remembers. M-105: "a pair counts
--- as the setting command, at its second frame, wherever the first one lies"; where it lies the device does not ask (`Pairs` has that it is so)
+-- a frame that counts for instance i, is the repeat, and means a setting command to it. M-105: "a pair counts as the setting command, at its second
+-- frame, wherever the first one lies"; that is where the device remembers it from, and `Pairs` has it in words of what happened
 abbrev pub setsIt : (i : ℕ) → Model → (first second third : ℕ) → Bool
 setsIt i m first second third = (counts m first second && eqb second i) && (again m first second third && sets m i third)
 

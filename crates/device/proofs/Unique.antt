@@ -10,6 +10,8 @@ use Rattle.device.proofs.fresh.Kinds as fresh-kinds
 use Rattle.device.proofs.fresh.Reads as fresh
 use Rattle.device.proofs.known.Kinds as known-kinds
 use Rattle.device.proofs.known.Reads as known
+use Rattle.device.proofs.judged.Judged.as_repeat.Kinds as Judged-as-repeat-kinds
+use Rattle.device.proofs.judged.Judged.as_repeat.Reads as Judged-as-repeat
 use Rattle.device.proofs.pairs.Remembered.repeats.Kinds as Remembered-repeats-kinds
 use Rattle.device.proofs.pairs.Remembered.repeats.Reads as Remembered-repeats
 use Rattle.promise.specs.Unique.{Unique, UniqueLent}
@@ -30,3 +32,6 @@ declare-unique κs a x y s t p q = p ∙ sym q
 
 pub Remembered-repeats-unique : Unique 0 Remembered-repeats-kinds.ps Remembered-repeats-kinds.r Remembered-repeats.Post
 Remembered-repeats-unique κs a x y s t p q = p ∙ sym q
+
+pub Judged-as-repeat-unique : Unique 0 Judged-as-repeat-kinds.ps Judged-as-repeat-kinds.r Judged-as-repeat.Post
+Judged-as-repeat-unique κs a x y s t p q = p ∙ sym q
