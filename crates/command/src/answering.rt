@@ -5,14 +5,14 @@ ghost use Rattle.std.specs.Prelude.{◌≡◌};
 use opcode::{Query, Variable};
 use sensor::{Instance, Latch};
 
-#[derive(Drop)]
+#[derive(Clone, Copy)]
 pub enum Answer {
     None,
     Byte(u8),
 }
 
 // What byte 3 leaves: the instance, DTR0, and what is answered.
-#[derive(Drop)]
+#[derive(Clone, Copy)]
 pub struct Acted {
     pub instance: Instance,
     pub dtr0: u8,
@@ -20,7 +20,7 @@ pub struct Acted {
 }
 
 // What is answered of an inputValue, and what is left of it.
-#[derive(Drop)]
+#[derive(Clone, Copy)]
 struct Piece {
     answer: Answer,
     latch: Latch,

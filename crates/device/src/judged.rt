@@ -5,7 +5,7 @@ ghost use Rattle.std.specs.Prelude.{◌≡◌};
 use crate::model::{Model, known};
 
 // Whom a frame counts for, what it means there, and so whether it needs its repeat.
-#[derive(Drop)]
+#[derive(Clone, Copy)]
 pub enum Judged {
     // It loads DTR0.
     Load,

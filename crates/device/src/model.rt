@@ -7,7 +7,7 @@ use sensor::{Instance, Sensor};
 
 // running: a record that is no declaration was taken, and declarations are over. declared: how many instances are.
 // last: the last tick that may be reached (M-106). remembered: the first frame of a pair (M-105).
-#[derive(Drop)]
+#[derive(Clone, Copy)]
 pub struct Model {
     pub tick: u32,
     pub last: u32,
@@ -19,7 +19,7 @@ pub struct Model {
 }
 
 // What came of a change that logs: the model after it and the bytes written; where these do not fit, the model as it was.
-#[derive(Drop)]
+#[derive(Clone, Copy)]
 pub struct Offered {
     pub model: Model,
     pub written: usize,

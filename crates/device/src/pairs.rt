@@ -3,7 +3,7 @@ ghost use Rattle.device.specs.Frame.{repeats};
 ghost use Rattle.std.specs.Prelude.{◌≡◌};
 
 // Its three bytes and its tick.
-#[derive(Drop)]
+#[derive(Clone, Copy)]
 pub enum Remembered {
     Nothing,
     First {

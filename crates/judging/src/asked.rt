@@ -9,7 +9,7 @@ use record::Mark;
 use sensor::{Sample, Sensor};
 
 // Why a record is not taken, in the order of the numbers.
-#[derive(Drop)]
+#[derive(Clone, Copy)]
 pub enum Refusal {
     UnknownMark,
     Cut,
@@ -25,7 +25,7 @@ pub enum Refusal {
 }
 
 // What a record asks for.
-#[derive(Drop)]
+#[derive(Clone, Copy)]
 pub enum Asked {
     Refused(Refusal),
     Declare(Sensor),

@@ -6,7 +6,7 @@ use record::Mark;
 use sensor::{Colour, Light, Occupancy, Sensor};
 
 // A sensor, or none that is modelled.
-#[derive(Drop)]
+#[derive(Clone, Copy)]
 pub enum Declares {
     Nothing,
     One(Sensor),

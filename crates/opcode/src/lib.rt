@@ -6,7 +6,7 @@ ghost use Rattle.std.specs.Prelude.{◌≡◌};
 use sensor::{Colour, Kind, Light, Movement, Occupancy};
 
 // The setting commands of all types. The proofs name those that an arm `_` takes in this order.
-#[derive(Drop)]
+#[derive(Clone, Copy)]
 pub enum Command {
     SetPriority,
     Enable,
@@ -22,14 +22,14 @@ pub enum Command {
 }
 
 // The instance control instructions: they act, and set nothing (M-100).
-#[derive(Drop)]
+#[derive(Clone, Copy)]
 pub enum Control {
     CatchMovement,
     CancelHold,
 }
 
 // What an instance is asked for that has one byte, or no answer, and latches nothing.
-#[derive(Drop)]
+#[derive(Clone, Copy)]
 pub enum Variable {
     SensorType,
     Resolution,
@@ -48,7 +48,7 @@ pub enum Variable {
 
 // The queries of all types: a variable; inputValue, whose top byte is answered; the next of its bytes; and the parameter of a colour sensor that DTR0
 // numbers (M-104).
-#[derive(Drop)]
+#[derive(Clone, Copy)]
 pub enum Query {
     QueryVariable(Variable),
     QueryValue,
@@ -56,7 +56,7 @@ pub enum Query {
     QueryColourSensor,
 }
 
-#[derive(Drop)]
+#[derive(Clone, Copy)]
 pub enum Meaning {
     Set(Command),
     Act(Control),

@@ -3,7 +3,7 @@ ghost use Rattle.rgb.specs.Annex.{parameter, wavelength};
 ghost use Rattle.std.specs.Prelude.{◌≡◌};
 
 // One of its three elements: the wavelengths in nm, and what a full scale reading takes, in uW/cm2.
-#[derive(Drop)]
+#[derive(Clone, Copy)]
 struct Channel {
     upper: u16,
     peak: u16,

@@ -11,7 +11,7 @@ use crate::settings::{Sample, Settings};
 use timers::Units;
 
 // shown: the sample of the last tick. last: the colour whose levels are rLast, gLast and bLast. band: hysteresisBand.
-#[derive(Drop)]
+#[derive(Clone, Copy)]
 pub struct Colour {
     pub shown: Sample,
     pub last: u32,

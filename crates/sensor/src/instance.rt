@@ -14,7 +14,7 @@ use crate::settings::{Sample, Settings};
 use timers::{Decision, Report, Timers};
 
 // The bytes of inputValue that 8D has yet to answer: the lowest `left` of `bytes`.
-#[derive(Drop)]
+#[derive(Clone, Copy)]
 pub struct Latch {
     pub left: u8,
     pub bytes: u32,
@@ -22,7 +22,7 @@ pub struct Latch {
 
 // measured: a valid sample was taken for it (M-110). failed: status 2 at the last tick. held: the latest sample. In this order it has 80 bytes: the
 // two flags fill what the timers leave of eight.
-#[derive(Drop)]
+#[derive(Clone, Copy)]
 pub struct Instance {
     pub kind: Kind,
     pub settings: Settings,
@@ -33,13 +33,13 @@ pub struct Instance {
     pub latch: Latch,
 }
 
-#[derive(Drop)]
+#[derive(Clone, Copy)]
 pub enum Sent {
     Nothing,
     Event { priority: u8, information: u16 },
 }
 
-#[derive(Drop)]
+#[derive(Clone, Copy)]
 pub struct Ticked {
     pub instance: Instance,
     pub sent: Sent,

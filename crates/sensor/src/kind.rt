@@ -10,7 +10,7 @@ use crate::occupancy::Occupancy;
 use crate::settings::{Sample, Settings};
 use timers::{Rules, Units};
 
-#[derive(Drop)]
+#[derive(Clone, Copy)]
 pub enum Kind {
     Light(Light),
     Occupancy(Occupancy),

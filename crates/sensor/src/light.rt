@@ -11,21 +11,21 @@ use crate::settings::{Sample, Settings};
 use timers::Units;
 
 // What is compared: the measured value, as the amendment of 2024 has it, or inputValue of it, as the text of 2017 had it (M-107).
-#[derive(Drop)]
+#[derive(Clone, Copy)]
 pub enum Basis {
     Measured,
     Padded,
 }
 
 // Where the number compared may lie without a trigger.
-#[derive(Drop)]
+#[derive(Clone, Copy)]
 pub enum Band {
     Nowhere,
     Between { low: u64, high: u64 },
 }
 
 // shown: the sample of the last tick.
-#[derive(Drop)]
+#[derive(Clone, Copy)]
 pub struct Light {
     pub basis: Basis,
     pub resolution: u8,

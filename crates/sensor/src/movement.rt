@@ -11,7 +11,7 @@ use crate::occupancy::Occupancy;
 use crate::settings::{Sample, Settings};
 
 // seen: as a presence-based sensor sees the area. hold: the ticks left of the hold time, which runs at 0xAA alone; 0 there has expired.
-#[derive(Drop)]
+#[derive(Clone, Copy)]
 pub struct Movement {
     pub seen: Occupancy,
     pub hold: u16,

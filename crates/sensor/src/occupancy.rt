@@ -10,7 +10,7 @@ use crate::settings::{Sample, Settings};
 use timers::Units;
 
 // value: of the last tick with status 0; bit 0 movement, bit 1 occupied. waiting: the triggers that wait to be sent.
-#[derive(Drop)]
+#[derive(Clone, Copy)]
 pub struct Occupancy {
     pub value: u8,
     pub waiting: u8,

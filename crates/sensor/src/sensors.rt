@@ -1,5 +1,5 @@
 // What a declaration declares: one of the sensors that are modelled. A further one is a case here, and an arm in `Instance::declared`.
-#[derive(Drop)]
+#[derive(Clone, Copy)]
 pub enum Sensor {
     Occupancy,
     Light { resolution: u8 },

@@ -1,7 +1,7 @@
 // What every type of sensor is set to and what it is given.
 
 // The settings block of an instance; 0 where its type has no such setting.
-#[derive(Drop)]
+#[derive(Clone, Copy)]
 pub struct Settings {
     pub report: u8,
     pub deadtime: u8,
@@ -28,7 +28,7 @@ impl Settings {
 }
 
 // What the sensor measured. Status 0 is valid, 1 not ready, 2 physical failure.
-#[derive(Drop)]
+#[derive(Clone, Copy)]
 pub struct Sample {
     pub status: u8,
     pub value: u32,

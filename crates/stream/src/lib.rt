@@ -10,7 +10,7 @@ use device::Model;
 use record::Mark;
 
 // What must come before the next step: more input; an emptied output; nothing, since a record is refused for good.
-#[derive(Drop)]
+#[derive(Clone, Copy)]
 pub enum Next {
     MoreInput,
     EmptiedOutput,
@@ -19,7 +19,7 @@ pub enum Next {
 
 // What goes from one step to the next. unread: the bytes at the front of the input buffer that the next step begins with. number: the last
 // step's. records, passed: the records taken whole, and their bytes.
-#[derive(Drop)]
+#[derive(Clone, Copy)]
 pub struct Progress {
     pub model: Model,
     pub unread: usize,
@@ -29,7 +29,7 @@ pub struct Progress {
 }
 
 // What a step came to. written: the bytes of log at the front of the output.
-#[derive(Drop)]
+#[derive(Clone, Copy)]
 pub struct Stepped {
     pub progress: Progress,
     pub written: usize,

@@ -8,7 +8,7 @@ use crate::tick::{places, tick};
 use device::{Model, Offered};
 
 // What came of a step: how many ticks it was, and what they offered. Ticks that do not fit were not carried out.
-#[derive(Drop)]
+#[derive(Clone, Copy)]
 pub struct Passed {
     pub ticks: u16,
     pub offered: Offered,

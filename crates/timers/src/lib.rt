@@ -9,28 +9,28 @@ ghost use Rattle.timers.specs.Timers.{dead_time, due, fallen, fallen_report, rep
 const FOREVER: u32 = 4294967295;
 
 // The report timer. Left(0) is due, and stays due.
-#[derive(Drop)]
+#[derive(Clone, Copy)]
 pub enum Report {
     Stopped,
     Left(u16),
 }
 
 // Dead time 0 is not running.
-#[derive(Drop)]
+#[derive(Clone, Copy)]
 pub struct Timers {
     pub dead: u16,
     pub report: Report,
 }
 
 // Ticks that one step of each multiplier stands for.
-#[derive(Drop)]
+#[derive(Clone, Copy)]
 pub struct Units {
     pub dead: u8,
     pub report: u8,
 }
 
 // What the decision goes by: the multipliers that are set, and whether the filter lets a due report out.
-#[derive(Drop)]
+#[derive(Clone, Copy)]
 pub struct Rules {
     pub enabled: bool,
     pub repeat: bool,
@@ -40,7 +40,7 @@ pub struct Rules {
 }
 
 // What is decided of a tick: no event; one with a cause of the sensor's own; one whose only cause is the due report.
-#[derive(Drop)]
+#[derive(Clone, Copy)]
 pub enum Decision {
     Silent,
     Triggered,
