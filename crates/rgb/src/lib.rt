@@ -1,5 +1,7 @@
 // What the number of a colour says (M-104; IEC 62386-305): its three levels, how far two colours are apart, what an event tells of one. And the sensor
 // that is modelled, which is the example of the standard's annex. Every function takes any numbers.
+#![tactic(auto)]
+
 mod annex;
 
 ghost use Rattle.std.specs.Prelude.{◌<◌, ◌&&◌, ◌≡◌};

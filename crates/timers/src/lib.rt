@@ -1,5 +1,7 @@
 // Two timers and one decision, the same for every kind of sensor (document 01, "Frames" and "One tick").
 // Nothing here knows what a sensor measures: a kind says whether it has a cause of its own, and the rest is decided here.
+#![tactic(auto)]
+
 ghost use Rattle.std.specs.Prelude.{◌*◌, ◌-◌, max, ◌≡◌};
 ghost use Rattle.timers.specs.Decision.{after, decided};
 ghost use Rattle.timers.specs.Quiet.{held_for, rested, rested_report, silent_for};

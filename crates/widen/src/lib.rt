@@ -1,5 +1,7 @@
 // The width rule (document 01, "Widths"): a measured value filled out from the top to a number of bits.
 // Every function takes any numbers: a resolution of 0 counts as 1, and a width above 32 as 32.
+#![tactic(auto)]
+
 ghost use Rattle.std.specs.Prelude.{◌%◌, ◌/◌, ◌^◌, max, min, ◌≡◌};
 ghost use Rattle.widen.specs.Width.{information, input_bytes, input_value, mask, widened};
 

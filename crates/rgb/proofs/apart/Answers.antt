@@ -1,0 +1,15 @@
+-- `rgb::apart` meets its contract: two bytes are less than 256 apart.
+-- Assumes nothing.
+use Rattle.rgb.specs.Colour.{apart}
+use borrow.Author.Rules.{rules}
+use borrow.Author.Tests.{le-ltb, lt-ltb}
+use native.Mathlib.Omega.{arith}
+use Rattle.rgb.proofs.apart.Goals as goal
+
+pub returns-then-a-b : goal.returns-then-a-b
+unfolding apart
+returns-then-a-b c = (rw (lt-ltb _ _ c.if-a-b.true), omega arith)
+
+pub returns-else-a-b : goal.returns-else-a-b
+unfolding apart
+returns-else-a-b c = (rw (le-ltb _ _ c.if-a-b.false), omega arith)

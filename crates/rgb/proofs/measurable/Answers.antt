@@ -1,0 +1,7 @@
+-- `rgb::measurable` meets its contract.
+-- Assumes nothing.
+use borrow.Author.Rules.{rules}
+use Rattle.rgb.proofs.measurable.Goals as goal
+
+pub returns : goal.returns
+returns c = rw (c.blue.ensures, c.green.ensures, c.red.ensures)
