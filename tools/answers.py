@@ -33,10 +33,12 @@ class Fn:
         self.parent = {}
         self.own = {}
         self.arm = {}
+        self.clauses = {}
         for i, p in enumerate(d["places"]):
             self.parent[p[0]] = p[1]
             self.own[p[0]] = p[2]
             self.arm[p[0]] = d["arms"][i]
+            self.clauses[p[0]] = (d["clauses"][i] or {}).get("fields")
         self.needs = [(a, b) for a, b in d["needs"]]
         self.at = [a for a, b in d["asked_at"]]
         self.loops = d["loops"]
@@ -78,10 +80,11 @@ class Fn:
                 if best:
                     f, olds = best
                     tail = rest[1 + len(olds) :]
-                    if f.endswith("-own"):
-                        return [arm[0]] + tail, None
                     return [arm[0], f] + tail, None
-            return [new] + rest[1:], None
+            tail = rest[1:]
+            if len(tail) > 1 and tail[0] == "ensures" and tail[1].isdigit() and self.clauses[place]:
+                tail[1] = self.clauses[place][int(tail[1])]
+            return [new] + tail, None
         # a step further up, or args and the like
         up = place
         while up is not None:
@@ -155,6 +158,52 @@ def rewrite(body, fn, place, said):
         return ".".join(["c"] + new)
 
     return PATH.sub(one, body)
+
+
+def clauses_of(crate, inner):
+    """The names of the clauses that a function ensures, where it has several."""
+    parts = inner.split("/")
+    for n in range(len(parts), -1, -1):
+        for src in (f"crates/{crate}/src/{'/'.join(parts[:n])}.rt", f"crates/{crate}/src/lib.rt", f"crates/{crate}/src/main.rt"):
+            if n and src.endswith(("lib.rt", "main.rt")) or not os.path.exists(src):
+                continue
+            text = open(src, encoding="utf-8").read()
+            if len(parts) - n == 2:
+                m = re.search(rf"(?ms)^impl {parts[-2]}\b.*?^}}", text)
+                text = m[0] if m else ""
+            m = re.search(rf"(?ms)^ *(?:pub(?:\(\w+\))? )?(?:extern \"C\" )?fn {parts[-1]}\b(.*?)^ *{{", text)
+            if m:
+                return re.findall(r"(?m)^ *ensures (\w+) {", m[1])
+    return []
+
+
+def as_record(term, names):
+    """A tuple at the end, of as many parts as there are clauses, as a record."""
+    text = term.rstrip()
+    if len(names) < 2 or not text.endswith(")"):
+        return term
+    depth, i = 0, len(text)
+    while i:
+        i -= 1
+        depth += {")": 1, "(": -1}.get(text[i], 0)
+        if not depth:
+            break
+    before = text[:i].rstrip()
+    if before and not re.search(r"(^|\s)in$", before):
+        return term
+    parts, depth, cur = [], 0, ""
+    for ch in text[i + 1 : -1]:
+        depth += {"(": 1, "[": 1, "{": 1, ")": -1, "]": -1, "}": -1}.get(ch, 0)
+        if ch == "," and not depth:
+            parts.append(cur)
+            cur = ""
+        else:
+            cur += ch
+    if cur.strip():
+        parts.append(cur)
+    if len(parts) != len(names):
+        return term
+    return text[:i] + "record { " + "; ".join(f"{n} = {x.strip()}" for n, x in zip(names, parts)) + " }"
 
 
 def module(path):
@@ -257,6 +306,8 @@ def turn(crate, path, d):
             continue
         term = rewrite(term, fn, place, said_here := [])
         said += [f"{n}: {x}" for x in said_here]
+        if new.startswith("returns"):
+            term = as_record(term, clauses_of(crate, inner))
         answers.append("\n".join(lead + [f"pub {new} : goal.{new}", f"{mm[1]}{new} c ={term}"]))
     own = [re.sub("|".join(rf"(?<![^\s(){{}};,.]){re.escape(a)}(?![^\s(){{}};,.])" for a in sorted(locals_, key=len, reverse=True)), lambda q: locals_[q[0]], o) if locals_ else o for o in own]
     head = "\n".join(comments)

@@ -8,13 +8,13 @@ pub returns : goal.returns
 unfolding absolute_change
 returns c =
     rw (
-      c.apart-3.ensures.0,
+      c.apart-3.ensures.is,
       c.blue-2.ensures,
       c.blue.ensures,
-      c.apart-2.ensures.0,
+      c.apart-2.ensures.is,
       c.green-2.ensures,
       c.green.ensures,
-      c.apart.ensures.0,
+      c.apart.ensures.is,
       c.red-2.ensures,
       c.red.ensures,
     )

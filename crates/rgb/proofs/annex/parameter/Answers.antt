@@ -80,4 +80,4 @@ returns-in-14 c = rw c.in-14.is
 
 pub returns-in-15-to-255 : goal.returns-in-15-to-255
 unfolding parameter
-returns-in-15-to-255 c = sym (get_or-eq_default parameters 0 {n = c.args.dtr0} (at_least 15 c.args.dtr0 c.in-15-to-255.rest))
+returns-in-15-to-255 c = sym (get_or-eq_default parameters 0 {n = c.args.dtr0} (at_least 15 c.args.dtr0 c.in-15-to-255.in-15-to-255-own.rest))
