@@ -1,5 +1,7 @@
 // One sensor instance by value: what it holds, what it measures, and one tick of it (document 01, "One tick").
 // Every function takes every value of every field: nothing is assumed of a resolution, a status or a filter.
+#![tactic(auto)]
+
 mod colour;
 mod instance;
 mod kind;

@@ -1,0 +1,13 @@
+-- `sensor::occupancy::Occupancy::allows` meets its contract.
+-- Assumes nothing.
+use Rattle.sensor.specs.Occupancy.{occupancy_allows}
+use borrow.Author.Tests.{eq-eqb, ne_eqb}
+use Rattle.sensor.proofs.occupancy.Occupancy.allows.Goals as goal
+
+pub returns-then-sample-eq0 : goal.returns-then-sample-eq0
+unfolding occupancy_allows
+returns-then-sample-eq0 c = rw (eq-eqb _ _ c.if-sample-eq0.true)
+
+pub returns-else-sample-eq0 : goal.returns-else-sample-eq0
+unfolding occupancy_allows
+returns-else-sample-eq0 c = rw (ne_eqb _ _ c.if-sample-eq0.false)
