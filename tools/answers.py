@@ -16,7 +16,8 @@ PATH = re.compile(rf"(?<![^\s(){{}};,])({SEG})((?:\.{SEG})+)|(?<![^\s(){{}};,.])
 
 
 def norm(s):
-    return s.replace("_", "-").replace("‑", "-")
+    """A step may bear a name that a lemma lost."""
+    return re.sub("-lem$", "", s.replace("_", "-"))
 
 
 def stripped(s):
@@ -81,7 +82,7 @@ class Fn:
                     f, olds = best
                     tail = rest[1 + len(olds) :]
                     return [arm[0], f] + tail, None
-            tail = rest[1:]
+            tail = ["type_inv" if s == "type-inv" else s for s in rest[1:]]
             if len(tail) > 1 and tail[0] == "ensures" and tail[1].isdigit() and self.clauses[place]:
                 tail[1] = self.clauses[place][int(tail[1])]
             return [new] + tail, None
