@@ -18,4 +18,4 @@ unfolding filtered
 returns-in-SetValidFilter c = rw c.in-SetValidFilter.is c.allowing-in-SetValidFilter.ensures
 
 pub returns-in_default : goal.returns-in_default
-returns-in_default c = same_kind _ c.args.command _ c.in_default.in_default-own.keys4
+returns-in_default c = same_kind _ c.args.command _ c.in_default.not-Disable c.in_default.not-SetFilter c.in_default.not-SetValidFilter

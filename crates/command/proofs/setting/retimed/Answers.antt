@@ -14,4 +14,4 @@ unfolding retimed
 returns-in-SetDeadtime c = rw (c.in-SetDeadtime.is, c.retimed_dead.ensures)
 
 pub returns-in_default : goal.returns-in_default
-returns-in_default c = same_timers _ c.args.command _ c.in_default.in_default-own.keys3
+returns-in_default c = same_timers _ c.args.command _ c.in_default.not-SetReport c.in_default.not-SetDeadtime
