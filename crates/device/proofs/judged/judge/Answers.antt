@@ -17,29 +17,29 @@ returns-then-first-second c = rw c.if-first-second.true
 pub bounds-model-i : goal.bounds-model-i
 bounds-model-i c =
     let a = c.args in
-    let k = counted a.t1 a.first a.second c.known.ensures c.if-first-known.true in
-    let here = (known_below a.t1 a.second (counts_known a.t1 a.first a.second k)).1 in
+    let k = counted a.model a.first a.second c.known.ensures c.if-first-known.true in
+    let here = (known_below a.model a.second (counts_known a.model a.first a.second k)).1 in
     search (rules, here)
 
 pub returns-then-is_setting : goal.returns-then-is_setting
 unfolding judged loads instance_at
 returns-then-is_setting c =
     let a = c.args in
-    let k : counts a.t1 a.first a.second ≡ true = counted a.t1 a.first a.second c.known.ensures c.if-first-known.true in
-    let s : sets a.t1 a.second a.third ≡ true = sym (ap is_setting c.meant.ensures) ∙ sym c.is_setting.ensures ∙ c.if-is_setting.true in
+    let k : counts a.model a.first a.second ≡ true = counted a.model a.first a.second c.known.ensures c.if-first-known.true in
+    let s : sets a.model a.second a.third ≡ true = sym (ap is_setting c.meant.ensures) ∙ sym c.is_setting.ensures ∙ c.if-is_setting.true in
     rw (c.if-first-second.false, k, s)
 
 pub returns-then-first-known : goal.returns-then-first-known
 unfolding judged loads instance_at
 returns-then-first-known c =
     let a = c.args in
-    let k : counts a.t1 a.first a.second ≡ true = counted a.t1 a.first a.second c.known.ensures c.if-first-known.true in
-    let s : sets a.t1 a.second a.third ≡ false = sym (ap is_setting c.meant.ensures) ∙ sym c.is_setting.ensures ∙ c.if-is_setting.false in
+    let k : counts a.model a.first a.second ≡ true = counted a.model a.first a.second c.known.ensures c.if-first-known.true in
+    let s : sets a.model a.second a.third ≡ false = sym (ap is_setting c.meant.ensures) ∙ sym c.is_setting.ensures ∙ c.if-is_setting.false in
     rw (c.if-first-second.false, k, s)
 
 pub returns : goal.returns
 unfolding judged loads
 returns c =
     let a = c.args in
-    let k : counts a.t1 a.first a.second ≡ false = counted a.t1 a.first a.second c.known.ensures c.if-first-known.false in
+    let k : counts a.model a.first a.second ≡ false = counted a.model a.first a.second c.known.ensures c.if-first-known.false in
     rw (c.if-first-second.false, k)
