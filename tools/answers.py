@@ -16,7 +16,8 @@ PATH = re.compile(rf"(?<![^\s(){{}};,])({SEG})((?:\.{SEG})+)|(?<![^\s(){{}};,.])
 
 
 def norm(s):
-    return s.replace("_", "-").replace("‑", "-")
+    """A step may bear a name that a lemma lost."""
+    return re.sub("-lem$", "", s.replace("_", "-"))
 
 
 def stripped(s):
@@ -44,6 +45,7 @@ class Fn:
         self.loops = d["loops"]
         self.changed = d["changed"]
         self.settled = d["settled"]
+        self.args = [[x.replace(" ", "")[1:].split(".") for x in pair] for pair in d["args"]]
 
     def goal(self, need):
         cands = stripped(norm(need))
@@ -61,9 +63,8 @@ class Fn:
         """(new path segments, or a place) for an old path from a place."""
         k = 0
         while k < len(segs) and segs[k] == "before":
-            place = self.parent[place]
-            if place is None:
-                raise ValueError("before the start")
+            # the start is reached sooner where a step is gone
+            place = self.parent[place] or place
             k += 1
         rest = segs[k:]
         if not rest:
@@ -81,7 +82,7 @@ class Fn:
                     f, olds = best
                     tail = rest[1 + len(olds) :]
                     return [arm[0], f] + tail, None
-            tail = rest[1:]
+            tail = ["type_inv" if s == "type-inv" else s for s in rest[1:]]
             if len(tail) > 1 and tail[0] == "ensures" and tail[1].isdigit() and self.clauses[place]:
                 tail[1] = self.clauses[place][int(tail[1])]
             return [new] + tail, None
@@ -157,7 +158,15 @@ def rewrite(body, fn, place, said):
             return m[0]
         return ".".join(["c"] + new)
 
-    return PATH.sub(one, body)
+    body = PATH.sub(one, body)
+    named = {m[1] for m in re.finditer(rf"let ({SEG}) = c\.args in", body)}
+    for old, new in fn.args:
+        body = re.sub(rf"(?<=\.){re.escape('.'.join(old))}(?![^\s(){{}};,.])", ".".join(new), body)
+        if old[0] == "args":
+            for a in named:
+                body = re.sub(rf"(?<![^\s(){{}};,]){re.escape(a)}\.{re.escape(old[1])}(?![^\s(){{}};,.])", f"{a}.{new[1]}", body)
+    # of `!x` the check says now what `x` is
+    return re.sub(r"not-(?:true|false) [^\s(){},;]+ (c\.[^\s(){},;]+)", r"\1", re.sub(r"\(not-(?:true|false) [^\s(){},;]+ (c\.[^\s(){},;]+)\)", r"\1", body))
 
 
 def clauses_of(crate, inner):

@@ -1,7 +1,6 @@
 -- `sensor::kind::Kind::rules` meets its contract.
 -- Assumes nothing.
 use Rattle.sensor.specs.Kind.{rules}
-use borrow.Author.Rules.{rules}
 use Rattle.sensor.proofs.kind.Kind.rules.Goals as goal
 
 pub returns : goal.returns
