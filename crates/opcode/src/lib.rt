@@ -1,5 +1,7 @@
 // The command or query that byte 3 of a frame means (document 01, "Frames"): one decision for each type, by the opcodes that the type carries and
 // those that all have, in the order of the type's table in specs/Meaning.antt.
+#![tactic(auto)]
+
 ghost use Rattle.opcode.specs.Meaning.{colour_meaning, is_setting, light_meaning, meant, movement_meaning, occupancy_meaning};
 ghost use Rattle.std.specs.Prelude.{◌≡◌};
 

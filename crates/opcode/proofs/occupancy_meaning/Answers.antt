@@ -1,0 +1,83 @@
+-- `opcode::occupancy_meaning` meets its contract: an arm of one number is the case of that opcode, and no case has what the arm of the ranges takes.
+-- Assumes nothing.
+use Rattle.opcode.proofs.Cases.{ignored}
+use Rattle.opcode.specs.Meaning.{occupancy_cases, occupancy_meaning, meant_in}
+use mathlib.Core.Logic.{⊎_elim}
+use mathlib.Core.Path.{ap, sym}
+use Rattle.opcode.proofs.occupancy_meaning.Goals as goal
+
+pub returns-in-34 : goal.returns-in-34
+unfolding occupancy_meaning meant_in
+returns-in-34 c = ap occupancy_meaning (sym c.in-34.is)
+
+pub returns-in-35 : goal.returns-in-35
+unfolding occupancy_meaning meant_in
+returns-in-35 c = ap occupancy_meaning (sym c.in-35.is)
+
+pub returns-in-44 : goal.returns-in-44
+unfolding occupancy_meaning meant_in
+returns-in-44 c = ap occupancy_meaning (sym c.in-44.is)
+
+pub returns-in-46 : goal.returns-in-46
+unfolding occupancy_meaning meant_in
+returns-in-46 c = ap occupancy_meaning (sym c.in-46.is)
+
+pub returns-in-97 : goal.returns-in-97
+unfolding occupancy_meaning meant_in
+returns-in-97 c = ap occupancy_meaning (sym c.in-97.is)
+
+pub returns-in-98 : goal.returns-in-98
+unfolding occupancy_meaning meant_in
+returns-in-98 c = ap occupancy_meaning (sym c.in-98.is)
+
+pub returns-in-99 : goal.returns-in-99
+unfolding occupancy_meaning meant_in
+returns-in-99 c = ap occupancy_meaning (sym c.in-99.is)
+
+pub returns-in-104 : goal.returns-in-104
+unfolding occupancy_meaning meant_in
+returns-in-104 c = ap occupancy_meaning (sym c.in-104.is)
+
+pub returns-in-128 : goal.returns-in-128
+unfolding occupancy_meaning meant_in
+returns-in-128 c = ap occupancy_meaning (sym c.in-128.is)
+
+pub returns-in-129 : goal.returns-in-129
+unfolding occupancy_meaning meant_in
+returns-in-129 c = ap occupancy_meaning (sym c.in-129.is)
+
+pub returns-in-130 : goal.returns-in-130
+unfolding occupancy_meaning meant_in
+returns-in-130 c = ap occupancy_meaning (sym c.in-130.is)
+
+pub returns-in-131 : goal.returns-in-131
+unfolding occupancy_meaning meant_in
+returns-in-131 c = ap occupancy_meaning (sym c.in-131.is)
+
+pub returns-in-132 : goal.returns-in-132
+unfolding occupancy_meaning meant_in
+returns-in-132 c = ap occupancy_meaning (sym c.in-132.is)
+
+pub returns-in-134 : goal.returns-in-134
+unfolding occupancy_meaning meant_in
+returns-in-134 c = ap occupancy_meaning (sym c.in-134.is)
+
+pub returns-in-140 : goal.returns-in-140
+unfolding occupancy_meaning meant_in
+returns-in-140 c = ap occupancy_meaning (sym c.in-140.is)
+
+pub returns-in-141 : goal.returns-in-141
+unfolding occupancy_meaning meant_in
+returns-in-141 c = ap occupancy_meaning (sym c.in-141.is)
+
+pub returns-in-144 : goal.returns-in-144
+unfolding occupancy_meaning meant_in
+returns-in-144 c = ap occupancy_meaning (sym c.in-144.is)
+
+pub returns-in-0-to-33 : goal.returns-in-0-to-33
+unfolding occupancy_meaning meant_in
+returns-in-0-to-33 c = ⊎_elim (λ e. ap occupancy_meaning (sym e)) (λ e. ap occupancy_meaning (sym e)) c.in-0-to-33.in-0-to-33-own.keys18
+
+pub returns-in-0-to-33-2 : goal.returns-in-0-to-33-2
+unfolding occupancy_meaning
+returns-in-0-to-33-2 c = ignored (Unit {0}) occupancy_cases c.args.opcode c.in-0-to-33.in-0-to-33-own.rest.0
