@@ -1,4 +1,3 @@
-mod Block
 mod Rest
 pub mod Laws
 pub mod Freed

@@ -1,4 +1,6 @@
 // What byte 3 of a frame does to an instance (document 01, "Frames"). All by value, but for the settings block, which an instance lends.
+#![tactic(auto)]
+
 mod answering;
 mod controlling;
 mod lent;

@@ -1,0 +1,9 @@
+-- `command::controlling::controlled` meets its contract.
+-- Assumes nothing.
+use Rattle.command.specs.Controlling.{controlled}
+use borrow.Author.Rules.{rules}
+use Rattle.command.proofs.controlling.controlled.Goals as goal
+
+pub returns : goal.returns
+unfolding controlled
+returns c = rw c.controlled_kind-kind.ensures
