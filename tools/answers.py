@@ -45,6 +45,7 @@ class Fn:
         self.loops = d["loops"]
         self.changed = d["changed"]
         self.settled = d["settled"]
+        self.args = [[x.replace(" ", "")[1:].split(".") for x in pair] for pair in d["args"]]
 
     def goal(self, need):
         cands = stripped(norm(need))
@@ -158,7 +159,15 @@ def rewrite(body, fn, place, said):
             return m[0]
         return ".".join(["c"] + new)
 
-    return PATH.sub(one, body)
+    body = PATH.sub(one, body)
+    named = {m[1] for m in re.finditer(rf"let ({SEG}) = c\.args in", body)}
+    for old, new in fn.args:
+        body = re.sub(rf"(?<=\.){re.escape('.'.join(old))}(?![^\s(){{}};,.])", ".".join(new), body)
+        if old[0] == "args":
+            for a in named:
+                body = re.sub(rf"(?<![^\s(){{}};,]){re.escape(a)}\.{re.escape(old[1])}(?![^\s(){{}};,.])", f"{a}.{new[1]}", body)
+    # of `!x` the check says now what `x` is
+    return re.sub(r"\(not-(?:true|false) _ (c\.[^\s(){},;]+)\)", r"\1", body)
 
 
 def clauses_of(crate, inner):

@@ -1,0 +1,9 @@
+-- `device::model::fresh` meets its contract.
+-- Assumes nothing.
+use Rattle.device.specs.Device.{fresh}
+use borrow.Author.Rules.{rules}
+use Rattle.device.proofs.model.fresh.Goals as goal
+
+pub returns : goal.returns
+unfolding fresh
+returns c = rw c.declared-nobody.ensures
