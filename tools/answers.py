@@ -167,7 +167,7 @@ def rewrite(body, fn, place, said):
             for a in named:
                 body = re.sub(rf"(?<![^\s(){{}};,]){re.escape(a)}\.{re.escape(old[1])}(?![^\s(){{}};,.])", f"{a}.{new[1]}", body)
     # of `!x` the check says now what `x` is
-    return re.sub(r"\(not-(?:true|false) _ (c\.[^\s(){},;]+)\)", r"\1", body)
+    return re.sub(r"not-(?:true|false) [^\s(){},;]+ (c\.[^\s(){},;]+)", r"\1", re.sub(r"\(not-(?:true|false) [^\s(){},;]+ (c\.[^\s(){},;]+)\)", r"\1", body))
 
 
 def clauses_of(crate, inner):

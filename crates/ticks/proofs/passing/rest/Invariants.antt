@@ -1,0 +1,17 @@
+-- `ticks::passing::rest` meets its contract.
+-- Assumes nothing.
+use Prim.Native.Nat.{min, ◌-◌, ◌≤◌}
+use Rattle.ticks.proofs.Quiet.{rest_turn, rest_whole, rest_first}
+use Rattle.ticks.proofs.Sweep.{long}
+use Rattle.ticks.specs.Tick.{sweep}
+use borrow.Author.Rules.{rules}
+use lib.ListN.{length}
+use mathlib.Core.Path.{refl, ◌≡◌, ◌∙◌}
+use native.Mathlib.Omega.{arith}
+use Rattle.ticks.proofs.passing.rest.Given as goal
+
+abbrev pub invariant-loop-i : goal.invariant-loop-i
+invariant-loop-i l = (l.i ≤ l.known) × (length l.initial.m.instances ≡ 16) × (l.m ≡ rest_first l.ticks l.i l.initial.m)
+
+abbrev pub decreases-loop-i : goal.decreases-loop-i
+decreases-loop-i l = l.known - l.i
