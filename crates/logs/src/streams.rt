@@ -31,15 +31,27 @@ impl Read for Stream {
     }
 }
 
-pub fn third<F: Files<File = File>>(files: &F) -> Stream {
-    named(files, "/proc/self/fd/3", "/proc/self/fdinfo/3")
+const THIRD: &str = "/proc/self/fd/3";
+
+const FOURTH: &str = "/proc/self/fd/4";
+
+// Both at once: a file that is opened takes the lowest number that is free, and must not be found by it.
+pub fn third_and_fourth<F: Files<File = File>>(files: &F) -> (Stream, Stream) {
+    let has_third = is_there(files, THIRD);
+    let has_fourth = is_there(files, FOURTH);
+    let third = named(files, has_third, THIRD, "/proc/self/fdinfo/3");
+    let fourth = named(files, has_fourth, FOURTH, "/proc/self/fdinfo/4");
+    (third, fourth)
 }
 
-pub fn fourth<F: Files<File = File>>(files: &F) -> Stream {
-    named(files, "/proc/self/fd/4", "/proc/self/fdinfo/4")
+fn is_there(files: &impl Files, name: &str) -> bool {
+    fs::metadata(files, name).is_ok()
 }
 
-fn named<F: Files<File = File>>(files: &F, name: &str, state: &str) -> Stream {
+fn named<F: Files<File = File>>(files: &F, is_there: bool, name: &str, state: &str) -> Stream {
+    if !is_there {
+        return Stream::Missing;
+    }
     match opened(files, name, state) {
         Ok(file) => Stream::Opened(file),
         Err(_) => Stream::Missing,
