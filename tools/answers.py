@@ -63,9 +63,8 @@ class Fn:
         """(new path segments, or a place) for an old path from a place."""
         k = 0
         while k < len(segs) and segs[k] == "before":
-            place = self.parent[place]
-            if place is None:
-                raise ValueError("before the start")
+            # the start is reached sooner where a step is gone
+            place = self.parent[place] or place
             k += 1
         rest = segs[k:]
         if not rest:

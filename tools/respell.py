@@ -4,7 +4,7 @@ a type to a name, as in Light-sent_unique.
 
 usage: python3 tools/respell.py [--check]     at the top of the repository, once, on what port.py left. --check prints the table and what falls together, and writes nothing
 
-It goes over the definitions and lemmas that stand at the left edge of specs/ and proofs/, and over the fields of records there; then each whole word of .antt files, of the
+It goes over the definitions, lemmas and fields of specs/ and proofs/; then each whole word of .antt files, of the
 clauses and ghost items of .rt files, of must-fail edits, and of code spans in pages turns by that table. Functions of src/, exported C names, strings, inputs and outputs stay.
 """
 import collections
@@ -12,8 +12,7 @@ import os
 import re
 import sys
 
-DECLARED = re.compile(r"^(?:(?:abbrev|unfoldable|opaque|pub|ruleset|infixl? \d+) )*([^\s:(){}.,;@\"«»]+)(?: \{[^{}\n]*\})* :(?= |$)")
-FIELD = re.compile(r"^ +pub ([^\s:(){}.,;@\"«»]+) :(?= |$)")
+DECLARED = re.compile(r"^ *(?:(?:abbrev|unfoldable|opaque|pub|ruleset|infixl? \d+) )*([^\s:(){}.,;@\"«»]+)(?: \{[^{}\n]*\})* :(?= |$)")
 WORD = re.compile(r'[^\s(){}.;,@"«»`⟨⟩\[\]!/]+')
 MADE = ("Proof.antt", "Answers.antt", "Invariants.antt")
 CLAUSE = re.compile(r"\b(?:requires|ensures)\*?\s*(?:\w+\s*)?\{|\bghost\s+(?:use\b|\w+\s*:\s*\{)")
@@ -49,12 +48,12 @@ def table():
     """A lemma that would have a definition's name gets `_lem`."""
     stands, lemmas = set(), set()
     for path in antt_files():
-        if os.path.basename(path) in MADE:  # a goal is named by the checker
-            continue
         there = stands if "/specs/" in path else lemmas
+        made = os.path.basename(path) in MADE
         for line in read(path).splitlines():
-            m = DECLARED.match(line) or FIELD.match(line)
-            if m:
+            m = DECLARED.match(line)
+            # in a function's own proof a goal is named by the checker
+            if m and not (made and (line.startswith(" ") or re.search(r"\b(tie|goal)\.|statement M", line))):
                 there.add(m[1])
     names = {a: spelled(a) for a in stands | lemmas}
     taken = {names[a] for a in stands}

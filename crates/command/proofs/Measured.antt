@@ -22,39 +22,39 @@ abbrev but : Bool → Acted → Acted
 but b a = leaving (with_measured b a.instance) a.dtr0 a.answer
 
 module _ (x : Instance) (b : Bool) where
-  value-unread : (v : Variable) → value_of (with_measured b x) v ≡ value_of x v
+  value_unread : (v : Variable) → value_of (with_measured b x) v ≡ value_of x v
   unfolding value_of
-  value-unread SensorType = refl
-  value-unread Resolution = refl
-  value-unread Error = refl
-  value-unread Status = refl
-  value-unread Priority = refl
-  value-unread Enabled = refl
-  value-unread Filter = refl
-  value-unread Report = refl
-  value-unread Deadtime = refl
-  value-unread Hysteresis = refl
-  value-unread HysteresisMin = refl
-  value-unread Hold = refl
-  value-unread Catching = refl
+  value_unread SensorType = refl
+  value_unread Resolution = refl
+  value_unread Error = refl
+  value_unread Status = refl
+  value_unread Priority = refl
+  value_unread Enabled = refl
+  value_unread Filter = refl
+  value_unread Report = refl
+  value_unread Deadtime = refl
+  value_unread Hysteresis = refl
+  value_unread HysteresisMin = refl
+  value_unread Hold = refl
+  value_unread Catching = refl
 
-  query-unread : (q : Query) (d : ℕ) → queried (with_measured b x) q d ≡ but b (queried x q d)
+  query_unread : (q : Query) (d : ℕ) → queried (with_measured b x) q d ≡ but b (queried x q d)
   unfolding answered queried
-  query-unread (QueryVariable v) d = ap (leaving (with_measured b x) d) (value-unread v)
-  query-unread QueryValue d = refl
-  query-unread QueryNext d = refl
-  query-unread QueryColourSensor d = refl
+  query_unread (QueryVariable v) d = ap (leaving (with_measured b x) d) (value_unread v)
+  query_unread QueryValue d = refl
+  query_unread QueryNext d = refl
+  query_unread QueryColourSensor d = refl
 
-  by-unread : (m : Meaning) (d : ℕ) → acted_by (with_measured b x) m d ≡ but b (acted_by x m d)
+  by_unread : (m : Meaning) (d : ℕ) → acted_by (with_measured b x) m d ≡ but b (acted_by x m d)
   unfolding acted_by block_changed controlled obeyed
-  by-unread (Set c) d = refl
-  by-unread (Act c) d = refl
-  by-unread (Ask q) d = query-unread q d
-  by-unread Ignored d = refl
+  by_unread (Set c) d = refl
+  by_unread (Act c) d = refl
+  by_unread (Ask q) d = query_unread q d
+  by_unread Ignored d = refl
 
   pub act_unread : (opcode dtr0 : ℕ) → acted (with_measured b x) opcode dtr0 ≡ but b (acted x opcode dtr0)
   unfolding acted
-  act_unread opcode dtr0 = by-unread (meant x.kind opcode) dtr0
+  act_unread opcode dtr0 = by_unread (meant x.kind opcode) dtr0
 
 pub act_measured : (x : Instance) (opcode dtr0 : ℕ) → (acted x opcode dtr0).instance.measured ≡ x.measured
 act_measured x opcode dtr0 = ap (λ a. a.instance.measured) (act_unread x x.measured opcode dtr0)

@@ -26,26 +26,26 @@ use native.Mathlib.Omega.{arith}
 
 -- ---- byte 3 leaves the sensor as it is, with fewer triggers waiting, or as a control instruction leaves it
 module _ (P : Kind → Type 0) where
-  command-by : (k : Kind) (c : Command) (filter : ℕ) → P k → ((allowed : ℕ) → P (allowing k allowed)) → P (filtered k c filter)
+  command_by : (k : Kind) (c : Command) (filter : ℕ) → P k → ((allowed : ℕ) → P (allowing k allowed)) → P (filtered k c filter)
   unfolding filtered
-  command-by k Disable filter was fewer = fewer 0
-  command-by k SetFilter filter was fewer = fewer filter
-  command-by k SetPriority filter was fewer = was
-  command-by k Enable filter was fewer = was
-  command-by k SetReport filter was fewer = was
-  command-by k SetDeadtime filter was fewer = was
-  command-by k SetHysteresis filter was fewer = was
-  command-by k SetHysteresisMin filter was fewer = was
-  command-by k SetHold filter was fewer = was
-  command-by k SetValidFilter filter was fewer = fewer filter
+  command_by k Disable filter was fewer = fewer 0
+  command_by k SetFilter filter was fewer = fewer filter
+  command_by k SetPriority filter was fewer = was
+  command_by k Enable filter was fewer = was
+  command_by k SetReport filter was fewer = was
+  command_by k SetDeadtime filter was fewer = was
+  command_by k SetHysteresis filter was fewer = was
+  command_by k SetHysteresisMin filter was fewer = was
+  command_by k SetHold filter was fewer = was
+  command_by k SetValidFilter filter was fewer = fewer filter
 
-  meaning-by : (x : Instance) (m : Meaning) (d : ℕ) → P x.kind → ((allowed : ℕ) → P (allowing x.kind allowed))
+  meaning_by : (x : Instance) (m : Meaning) (d : ℕ) → P x.kind → ((allowed : ℕ) → P (allowing x.kind allowed))
       → ((c : Control) → m ≡ Act c → P (controlled_kind x.kind c x.settings)) → P (acted_by x m d).instance.kind
   unfolding acted_by controlled obeyed block_changed
-  meaning-by x (Set c) d was fewer acts = command-by x.kind c _ was fewer
-  meaning-by x (Act c) d was fewer acts = acts c refl
-  meaning-by x (Ask q) d was fewer acts = subst P (sym (ap (λ y. y.kind) (query_keeps x q d))) was
-  meaning-by x Ignored d was fewer acts = was
+  meaning_by x (Set c) d was fewer acts = command_by x.kind c _ was fewer
+  meaning_by x (Act c) d was fewer acts = acts c refl
+  meaning_by x (Ask q) d was fewer acts = subst P (sym (ap (λ y. y.kind) (query_keeps x q d))) was
+  meaning_by x Ignored d was fewer acts = was
 
 -- ---- the value and the hold timer: all but cancel hold leaves them
 allowing_area : (k : Kind) (allowed : ℕ) {value left : ℕ} → Area k value left → Area (allowing k allowed) value left
@@ -60,7 +60,7 @@ pub act_area : (x : Instance) (opcode dtr0 : ℕ) {value left : ℕ} → meant x
     → Area x.kind value left → Area (acted x opcode dtr0).instance.kind value left
 unfolding acted controlled_kind
 act_area x opcode dtr0 {value} {left} none a =
-    meaning-by (λ k. Area k value left) x (meant x.kind opcode) dtr0 a (λ allowed. allowing_area x.kind allowed a) acts
+    meaning_by (λ k. Area k value left) x (meant x.kind opcode) dtr0 a (λ allowed. allowing_area x.kind allowed a) acts
   where
     acts : (c : Control) → meant x.kind opcode ≡ Act c → Area (controlled_kind x.kind c x.settings) value left
     acts CatchMovement e = caught_area x.kind x.settings a
@@ -70,7 +70,7 @@ act_area x opcode dtr0 {value} {left} none a =
 pub act_owed : (x : Instance) (opcode dtr0 : ℕ) → meant x.kind opcode ≢ Act CatchMovement → owed (acted x opcode dtr0).instance.kind ≤ owed x.kind
 unfolding acted controlled_kind
 act_owed x opcode dtr0 none =
-    meaning-by (λ k. owed k ≤ owed x.kind) x (meant x.kind opcode) dtr0 (omega arith) (allowing_owed x.kind) acts
+    meaning_by (λ k. owed k ≤ owed x.kind) x (meant x.kind opcode) dtr0 (omega arith) (allowing_owed x.kind) acts
   where
     acts : (c : Control) → meant x.kind opcode ≡ Act c → owed (controlled_kind x.kind c x.settings) ≤ owed x.kind
     acts CatchMovement e = absurd (none e)

@@ -73,18 +73,18 @@ module _ (x : Instance) where
   value_as Hold = refl
   value_as Catching = ap (λ b. only_if b 0xFF) (catching_as x.kind)
 
-  query-as : (q : Query) (d : ℕ) → queried (as_in x) q d ≡ like (queried x q d)
+  query_as : (q : Query) (d : ℕ) → queried (as_in x) q d ≡ like (queried x q d)
   unfolding answered queried
-  query-as (QueryVariable v) d = ap (leaving (as_in x) d) (value_as v)
-  query-as QueryValue d = rw (input_as x.kind, resolution_as x.kind)
-  query-as QueryNext d = refl
-  query-as QueryColourSensor d = refl
+  query_as (QueryVariable v) d = ap (leaving (as_in x) d) (value_as v)
+  query_as QueryValue d = rw (input_as x.kind, resolution_as x.kind)
+  query_as QueryNext d = refl
+  query_as QueryColourSensor d = refl
 
   by_as : (m : Meaning) (d : ℕ) → acted_by (as_in x) m d ≡ like (acted_by x m d)
   unfolding acted_by block_changed controlled obeyed
   by_as (Set c) d = rw (kept_as x.kind, rules_as x.kind, filtered_as x.kind c)
   by_as (Act c) d = rw (controlled_as x.kind c x.settings)
-  by_as (Ask q) d = query-as q d
+  by_as (Ask q) d = query_as q d
   by_as Ignored d = refl
 
   pub act_as : (opcode dtr0 : ℕ) → acted (as_in x) opcode dtr0 ≡ like (acted x opcode dtr0)
@@ -129,37 +129,37 @@ controlled_takes (Colour c) CatchMovement s sample h = tt
 controlled_takes (Colour c) CancelHold s sample h = tt
 
 module _ (x : Instance) (f : InRange x) where
-  obeyed-in-range : (c : Command) (d : ℕ) → InRange (obeyed x c d)
+  obeyed_in_range : (c : Command) (d : ℕ) → InRange (obeyed x c d)
   unfolding obeyed block_changed filtered
-  obeyed-in-range Disable d = record { shows = allowing_shows x.kind _ f.shows; holds = allowing_takes x.kind _ x.held f.holds }
-  obeyed-in-range SetFilter d = record { shows = allowing_shows x.kind _ f.shows; holds = allowing_takes x.kind _ x.held f.holds }
-  obeyed-in-range SetValidFilter d = record { shows = allowing_shows x.kind _ f.shows; holds = allowing_takes x.kind _ x.held f.holds }
-  obeyed-in-range SetPriority d = record { shows = f.shows; holds = f.holds }
-  obeyed-in-range Enable d = record { shows = f.shows; holds = f.holds }
-  obeyed-in-range SetReport d = record { shows = f.shows; holds = f.holds }
-  obeyed-in-range SetDeadtime d = record { shows = f.shows; holds = f.holds }
-  obeyed-in-range SetHysteresis d = record { shows = f.shows; holds = f.holds }
-  obeyed-in-range SetHysteresisMin d = record { shows = f.shows; holds = f.holds }
-  obeyed-in-range SetHold d = record { shows = f.shows; holds = f.holds }
+  obeyed_in_range Disable d = record { shows = allowing_shows x.kind _ f.shows; holds = allowing_takes x.kind _ x.held f.holds }
+  obeyed_in_range SetFilter d = record { shows = allowing_shows x.kind _ f.shows; holds = allowing_takes x.kind _ x.held f.holds }
+  obeyed_in_range SetValidFilter d = record { shows = allowing_shows x.kind _ f.shows; holds = allowing_takes x.kind _ x.held f.holds }
+  obeyed_in_range SetPriority d = record { shows = f.shows; holds = f.holds }
+  obeyed_in_range Enable d = record { shows = f.shows; holds = f.holds }
+  obeyed_in_range SetReport d = record { shows = f.shows; holds = f.holds }
+  obeyed_in_range SetDeadtime d = record { shows = f.shows; holds = f.holds }
+  obeyed_in_range SetHysteresis d = record { shows = f.shows; holds = f.holds }
+  obeyed_in_range SetHysteresisMin d = record { shows = f.shows; holds = f.holds }
+  obeyed_in_range SetHold d = record { shows = f.shows; holds = f.holds }
 
-  controlled-in-range : (c : Control) → InRange (controlled x c)
+  controlled_in_range : (c : Control) → InRange (controlled x c)
   unfolding controlled
-  controlled-in-range c =
+  controlled_in_range c =
       record { shows = controlled_shows x.kind c x.settings f.shows; holds = controlled_takes x.kind c x.settings x.held f.holds }
 
-  query-in-range : (q : Query) (d : ℕ) → InRange (queried x q d).instance
+  query_in_range : (q : Query) (d : ℕ) → InRange (queried x q d).instance
   unfolding queried answered
-  query-in-range (QueryVariable v) d = f
-  query-in-range QueryValue d = record { shows = f.shows; holds = f.holds }
-  query-in-range QueryNext d = record { shows = f.shows; holds = f.holds }
-  query-in-range QueryColourSensor d = f
+  query_in_range (QueryVariable v) d = f
+  query_in_range QueryValue d = record { shows = f.shows; holds = f.holds }
+  query_in_range QueryNext d = record { shows = f.shows; holds = f.holds }
+  query_in_range QueryColourSensor d = f
 
   pub act_in_range : (opcode dtr0 : ℕ) → InRange (acted x opcode dtr0).instance
   unfolding acted acted_by
   act_in_range opcode dtr0 = go (meant x.kind opcode)
     where
       go : (m : Meaning) → InRange (acted_by x m dtr0).instance
-      go (Set c) = obeyed-in-range c dtr0
-      go (Act c) = controlled-in-range c
-      go (Ask q) = query-in-range q dtr0
+      go (Set c) = obeyed_in_range c dtr0
+      go (Act c) = controlled_in_range c
+      go (Ask q) = query_in_range q dtr0
       go Ignored = f

@@ -17,7 +17,7 @@ use Rattle.demands.proofs.Demand3.HourTable.{hour_at_least, hour_at_most, hour_g
 use Rattle.demands.proofs.Demand3.WindowEvents.{window_events}
 use Rattle.demands.specs.Alone.{Present}
 use Rattle.demands.specs.Happenings.{Call, Happening, bytes_written, log_after, ticks_in}
-use Rattle.demands.specs.Window.{D, R, Start, Undisturbed, Window, deviceAfter, events, events_of, last, n, rules_of}
+use Rattle.demands.specs.Window.{D, R, Start, Undisturbed, Window, device_after, events, events_of, last, n, rules_of}
 use Rattle.device.specs.Device.{instance_at}
 use Rattle.device.specs.declared.model.Model.{Model}
 use Rattle.hours.specs.Table.{before, events_in, gap_in}
@@ -43,7 +43,7 @@ use mathlib.Core.Path.{subst, ◌≡◌}
 -- carried out in the window, also where the output ran out in the midst of a TK. D and R are those of the instance just after its event.
 module _ {m₀ : Model} {calls : List Call} {i : ℕ} (w : Window m₀ calls i) where
   abbrev x : Instance
-  x = instance_at (deviceAfter w.at) i
+  x = instance_at (device_after w.at) i
 
   -- "an enabled instance just after one of its events"
   pub enabled : x.settings.enabled ≡ true
@@ -107,7 +107,7 @@ module _ {m₀ : Model} {calls : List Call} {i : ℕ} (w : Window m₀ calls i) 
 -- R ticks on, at the latest. (Light reports as it is declared; the Repeat filter bit of occupancy is 0 until a command sets it.)
 module _ {m₀ : Model} {calls : List Call} {i : ℕ} {sensor : Sensor} (s : Start m₀ calls i sensor) where
   abbrev declared : Instance
-  declared = instance_at (deviceAfter s.at) i
+  declared = instance_at (device_after s.at) i
 
   pub first_event : R declared ≤ n s.at → (e : ℕ) × Memᴰ e (events s.at i) × (last s.at < e) × (e ≤ last s.at + R declared)
   first_event h = declared_soon s h

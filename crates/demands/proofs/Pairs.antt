@@ -65,46 +65,46 @@ same_again first second third t n = rw (eq-eqb first first refl, eq-eqb second s
 
 -- ---- A PAIR: a first half at m, then no frame, then the same frame again
 module _ {m : Model} {first second third : ℕ} (f : FirstHalf m first second third) where
-  first-left : frame_model m first second third ≡ remembering first second third (under_way m)
-  first-left = frame_first m first second third (counts_loads m first second f.counted) f.counted f.setting f.new
+  first_left : frame_model m first second third ≡ remembering first second third (under_way m)
+  first_left = frame_first m first second third (counts_loads m first second f.counted) f.counted f.setting f.new
 
   module _ (p : Present second m) (hs : List Happening) (none : NoFrame hs) where
     -- the device when it comes
     abbrev then : Model
     then = model_after (frame_model m first second third) hs
 
-    counted-then : counts then first second ≡ true
+    counted_then : counts then first second ≡ true
     unfolding model_after
-    counted-then = counts_between m (frame first second third ∷ hs) first second f.counted
+    counted_then = counts_between m (frame first second third ∷ hs) first second f.counted
 
-    setting-then : sets then second third ≡ true
+    setting_then : sets then second third ≡ true
     unfolding instance_at
-    setting-then =
+    setting_then =
         sets_between (frame_model m first second third) hs none (happen_present m (frame first second third) p) third
-        ∙ ap (λ x. sets x second third) first-left ∙ f.setting
+        ∙ ap (λ x. sets x second third) first_left ∙ f.setting
 
-    again-then : again then first second third ≡ leb (ticks_in hs) 2
-    again-then =
-        rw (remembered_between (frame_model m first second third) hs none, run_ticks (frame_model m first second third) hs, first-left)
+    again_then : again then first second third ≡ leb (ticks_in hs) 2
+    again_then =
+        rw (remembered_between (frame_model m first second third) hs none, run_ticks (frame_model m first second third) hs, first_left)
         (same_again first second third m.tick (ticks_in hs))
 
     -- no more than 2 ticks later it acts, as the command by itself, and is forgotten
     pub pair_acts : ticks_in hs ≤ 2
         → (frame_model then first second third ≡ forgetting (numbered_model then second third)) × (frame_log then first second third ≡ [])
     pair_acts h =
-        let l = counts_loads then first second counted-then in (
-          frame_repeats then first second third l counted-then setting-then (again-then ∙ le-leb (ticks_in hs) 2 h),
-          frame_answers then first second third l counted-then ∙ numbered_silent then second third setting-then,
+        let l = counts_loads then first second counted_then in (
+          frame_repeats then first second third l counted_then setting_then (again_then ∙ le-leb (ticks_in hs) 2 h),
+          frame_answers then first second third l counted_then ∙ numbered_silent then second third setting_then,
         )
 
     -- later it is a first half itself
     pub pair_late : 2 < ticks_in hs → FirstHalf then first second third
-    pair_late h = record { counted = counted-then; setting = setting-then; new = again-then ∙ lt-leb (ticks_in hs) 2 h }
+    pair_late h = record { counted = counted_then; setting = setting_then; new = again_then ∙ lt-leb (ticks_in hs) 2 h }
 
     -- DEMAND 3: "a pair counts as the setting command, at its second frame, wherever the first one lies": m is any device, before the window, before
     -- the event or in an earlier call, and `then` the one at which the window would have the second
     pub pair_sets : ticks_in hs ≤ 2 → sets_it second then first second third ≡ true
-    pair_sets h = rw (counted-then, eq-eqb second second refl, again-then, le-leb (ticks_in hs) 2 h, setting-then) refl
+    pair_sets h = rw (counted_then, eq-eqb second second refl, again_then, le-leb (ticks_in hs) 2 h, setting_then) refl
 
 -- and a first half, or any frame that is no repeat, ends no window
 pub half_calm : (i : ℕ) (m : Model) (first second third : ℕ) → again m first second third ≡ false → Calm i m (frame first second third)
@@ -133,7 +133,7 @@ module _ (m : Model) (first second third : ℕ) (c : counts m first second ≡ t
   pub twice_as_once : twice ≡ numbered_model m second third
   unfolding numbered_model instance_at counts known repeats
   twice_as_once =
-      ap (λ x. frame_model x first second third) (first-left half)
+      ap (λ x. frame_model x first second third) (first_left half)
       ∙ frame_repeats once first second third (counts_loads m first second c) c s here
       ∙ ap (λ r. with_remembered r (numbered_model m second third)) (sym e)
     where
@@ -159,4 +159,4 @@ unfolding model_after
 half_stands m calls before between first second third e f none =
     ap (λ x. x.remembered) (calls_model m calls ∙ ap (model_after m) e ∙ model_append m before (frame first second third ∷ between))
     ∙ remembered_between (frame_model (model_after m before) first second third) between none
-    ∙ ap (λ x. x.remembered) (first-left f)
+    ∙ ap (λ x. x.remembered) (first_left f)

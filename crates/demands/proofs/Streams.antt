@@ -44,8 +44,8 @@ module _ (m : Model) (pieces : List (List ℕ)) (rooms : List ℕ) (done : over 
   one big = session m (joined pieces) big
 
   -- but for the ticks, which are none after a number that is not 9
-  one-untimed : (big : ℕ) → length (bytes_of h.log) ≤ big → untimed (one big) ≡ result h
-  one-untimed big enough =
+  one_untimed : (big : ℕ) → length (bytes_of h.log) ≤ big → untimed (one big) ≡ result h
+  one_untimed big enough =
       ap untimed (ap (session m (joined pieces)) (sym (nothing_left big)) ∙ sym (behind_nothing _))
       ∙ streams_from rooms (start m pieces) (still_none m) done big enough
 
@@ -53,7 +53,7 @@ module _ (m : Model) (pieces : List (List ℕ)) (rooms : List ℕ) (done : over 
   -- all records that the program took, and the same log, and so the same bytes.
   pub streams : (big : ℕ) → length (bytes_of h.log) ≤ big → session m (joined pieces) big ≡ result h
   streams big enough =
-      let whole = one-untimed big enough in
+      let whole = one_untimed big enough in
       let number : (one big).number ≡ h.number = ap (λ e. e.number) whole in
       let none = no_ticks m (joined pieces) big (λ nine. over_number h.number h.coming done (sym number ∙ nine)) in
       ap (λ t. record { model = (one big).model; number = (one big).number; offset = (one big).offset; ticks = t; log = (one big).log }) none
@@ -68,13 +68,13 @@ same_result m pieces pieces' rooms rooms' same o o' =
 
 -- One call that does not end by 9 is a run of one turn.
 module _ (m : Model) (xs : List ℕ) (big : ℕ) (n : (session m xs big).number ≢ 9) where
-  one-over : over (run m (xs ∷ []) (big ∷ [])) ≡ true
+  one_over : over (run m (xs ∷ []) (big ∷ [])) ≡ true
   unfolding streamed turn_by turned next_after
-  one-over = number_over (session m xs big).number n
+  one_over = number_over (session m xs big).number n
 
-  one-result : result (run m (xs ∷ []) (big ∷ [])) ≡ session m xs big
+  one_result : result (run m (xs ∷ []) (big ∷ [])) ≡ session m xs big
   unfolding streamed turn_by turned next_after
-  one-result =
+  one_result =
       λ i. record {
         model = (session m xs big).model;
         number = (session m xs big).number;
@@ -88,8 +88,8 @@ pub stream_theorem : (m : Model) (pieces : List (List ℕ)) (rooms : List ℕ) �
     → (big : ℕ) → (session m (joined pieces) big).number ≢ 9 → session m (joined pieces) big ≡ result (run m pieces rooms)
 unfolding joined
 stream_theorem m pieces rooms done big n =
-    sym (one-result m (joined pieces) big n)
-    ∙ same_result m (joined pieces ∷ []) pieces (big ∷ []) rooms (append-nil (joined pieces)) (one-over m (joined pieces) big n) done
+    sym (one_result m (joined pieces) big n)
+    ∙ same_result m (joined pieces ∷ []) pieces (big ∷ []) rooms (append-nil (joined pieces)) (one_over m (joined pieces) big n) done
 
 -- And it does come to be over: with room for the records of one tick of sixteen instances, after some number of turns.
 pub comes_over : (m : Model) → length m.instances ≤ 16 → (room : ℕ) → 160 ≤ room → (pieces : List (List ℕ))

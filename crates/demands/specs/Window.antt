@@ -60,14 +60,14 @@ pub record Cut (m₀ : Model) (calls : List Call) (h : Happening) : Type 0 where
 
 module _ {m₀ : Model} {calls : List Call} {h : Happening} (c : Cut m₀ calls h) where
   -- the device before the happening and just after it, with its tick number, and the ticks of the window
-  abbrev pub deviceBefore : Model
-  deviceBefore = model_after m₀ c.before
+  abbrev pub device_before : Model
+  device_before = model_after m₀ c.before
 
-  abbrev pub deviceAfter : Model
-  deviceAfter = happen deviceBefore h
+  abbrev pub device_after : Model
+  device_after = happen device_before h
 
   abbrev pub last : ℕ
-  last = deviceAfter.tick
+  last = device_after.tick
 
   abbrev pub n : ℕ
   n = ticks_in c.during
@@ -79,15 +79,15 @@ module _ {m₀ : Model} {calls : List Call} {h : Happening} (c : Cut m₀ calls 
 -- the window after a tick that logged an event of instance i
 pub record Window (m₀ : Model) (calls : List Call) (i : ℕ) : Type 0 where
   pub at : Cut m₀ calls tick
-  pub event : 0 < length (events_of i (tick_log (deviceBefore at)))
-  pub reports : Reports (instance_at (deviceAfter at) i)
-  pub undisturbed : Undisturbed i (deviceAfter at) at.during
+  pub event : 0 < length (events_of i (tick_log (device_before at)))
+  pub reports : Reports (instance_at (device_after at) i)
+  pub undisturbed : Undisturbed i (device_after at) at.during
 
 -- the window after a declaration of instance i
 pub record Start (m₀ : Model) (calls : List Call) (i : ℕ) (sensor : Sensor) : Type 0 where
   pub at : Cut m₀ calls (declare sensor)
-  pub next : i ≡ (deviceBefore at).declared
+  pub next : i ≡ (device_before at).declared
   pub there : i < 16
   pub sixteen : length m₀.instances ≡ 16
-  pub reports : Reports (instance_at (deviceAfter at) i)
-  pub undisturbed : Undisturbed i (deviceAfter at) at.during
+  pub reports : Reports (instance_at (device_after at) i)
+  pub undisturbed : Undisturbed i (device_after at) at.during

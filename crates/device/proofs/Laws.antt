@@ -65,36 +65,36 @@ abbrev enlarged : Model → Sensor → Model
 enlarged m sensor = with_declared (m.declared + 1) (with_instance m.declared (sensors.declared sensor) m)
 
 module _ (m : Model) (sensor : Sensor) where
-  declared-by : (P : Model → Type 0) → P (enlarged m sensor) → P m → P (declared_model m sensor)
+  declared_by_lem : (P : Model → Type 0) → P (enlarged m sensor) → P m → P (declared_model m sensor)
   unfolding declared_model
-  declared-by P next full = go (ltb m.declared 16)
+  declared_by_lem P next full = go (ltb m.declared 16)
     where
       go : (b : Bool) → P (cond b (enlarged m sensor) m)
       go true = next
       go false = full
 
   pub declared_tick : (declared_model m sensor).tick ≡ m.tick
-  declared_tick = declared-by (λ (x : Model). x.tick ≡ m.tick) refl refl
+  declared_tick = declared_by_lem (λ (x : Model). x.tick ≡ m.tick) refl refl
 
   pub declared_last : (declared_model m sensor).last ≡ m.last
-  declared_last = declared-by (λ (x : Model). x.last ≡ m.last) refl refl
+  declared_last = declared_by_lem (λ (x : Model). x.last ≡ m.last) refl refl
 
   pub declared_dtr0 : (declared_model m sensor).dtr0 ≡ m.dtr0
-  declared_dtr0 = declared-by (λ (x : Model). x.dtr0 ≡ m.dtr0) refl refl
+  declared_dtr0 = declared_by_lem (λ (x : Model). x.dtr0 ≡ m.dtr0) refl refl
 
   pub declared_next : m.declared < 16 → (declared_model m sensor).declared ≡ m.declared + 1
   unfolding declared_model
   declared_next h = rw (lt-ltb m.declared 16 h)
 
   pub declared_running : (declared_model m sensor).running ≡ m.running
-  declared_running = declared-by (λ (x : Model). x.running ≡ m.running) refl refl
+  declared_running = declared_by_lem (λ (x : Model). x.running ≡ m.running) refl refl
 
   pub declared_remembered : (declared_model m sensor).remembered ≡ m.remembered
-  declared_remembered = declared-by (λ (x : Model). x.remembered ≡ m.remembered) refl refl
+  declared_remembered = declared_by_lem (λ (x : Model). x.remembered ≡ m.remembered) refl refl
 
   pub declared_length : length (declared_model m sensor).instances ≡ length m.instances
   declared_length =
-      declared-by (λ (x : Model). length x.instances ≡ length m.instances)
+      declared_by_lem (λ (x : Model). length x.instances ≡ length m.instances)
       (length-set m.instances m.declared (sensors.declared sensor)) refl
 
   -- there is no seventeenth
@@ -114,7 +114,7 @@ module _ (m : Model) (sensor : Sensor) where
   pub declared_other : (j : ℕ) → j ≢ m.declared → instance_at (declared_model m sensor) j ≡ instance_at m j
   unfolding instance_at
   declared_other j ne =
-      declared-by (λ (x : Model). get_or x.instances j sensors.blank ≡ get_or m.instances j sensors.blank)
+      declared_by_lem (λ (x : Model). get_or x.instances j sensors.blank ≡ get_or m.instances j sensors.blank)
       (get_or-set_other m.instances m.declared j (sensors.declared sensor) sensors.blank ne) refl
 
 -- ---- SA
@@ -235,19 +235,19 @@ module _ (m : Model) (first second third : ℕ) where
       go false = waits
 
   -- judged so, it leaves this
-  heeded-as : {j : Judged} → judged m first second third ≡ j → frame_model m first second third ≡ heeded m first second third (as_repeat j (again m first second third))
+  heeded_as : {j : Judged} → judged m first second third ≡ j → frame_model m first second third ≡ heeded m first second third (as_repeat j (again m first second third))
   unfolding frame_model
-  heeded-as e = ap (λ j. heeded m first second third (as_repeat j (again m first second third))) e
+  heeded_as e = ap (λ j. heeded m first second third (as_repeat j (again m first second third))) e
 
   pub frame_loads : loads first second ≡ true
       → (frame_model m first second third ≡ forgetting (under_way (with_dtr0 third m))) × (frame_log m first second third ≡ [])
   unfolding frame_log judged heeded as_repeat
-  frame_loads l = (heeded-as {j = Load} (rw l), rw l)
+  frame_loads l = (heeded_as {j = Load} (rw l), rw l)
 
   pub frame_ignored : loads first second ≡ false → counts m first second ≡ false
       → (frame_model m first second third ≡ forgetting (under_way m)) × (frame_log m first second third ≡ [])
   unfolding frame_log judged heeded as_repeat
-  frame_ignored l k = (heeded-as {j = Nobody} (rw (l, k)), rw (l, k))
+  frame_ignored l k = (heeded_as {j = Nobody} (rw (l, k)), rw (l, k))
 
   module _ (l : loads first second ≡ false) (k : counts m first second ≡ true) where
     pub frame_answers : frame_log m first second third ≡ numbered_log m second third
@@ -257,23 +257,23 @@ module _ (m : Model) (first second third : ℕ) where
     -- what is no setting command acts at once
     pub frame_acts : sets m second third ≡ false → frame_model m first second third ≡ forgetting (numbered_model m second third)
     unfolding judged heeded as_repeat
-    frame_acts s = heeded-as {j = Acts second} (rw (l, k, s))
+    frame_acts s = heeded_as {j = Acts second} (rw (l, k, s))
 
     -- M-105: a setting command acts at its repeat, and is remembered before
-    frame-sets : sets m second third ≡ true → {again' : Bool} → again m first second third ≡ again'
+    frame_sets : sets m second third ≡ true → {again' : Bool} → again m first second third ≡ again'
         → frame_model m first second third ≡ heeded m first second third (cond again' (Acts second) (Sets second))
     unfolding judged as_repeat
-    frame-sets s r = heeded-as {j = Sets second} (rw (l, k, s)) ∙ ap (λ b. heeded m first second third (cond b (Acts second) (Sets second))) r
+    frame_sets s r = heeded_as {j = Sets second} (rw (l, k, s)) ∙ ap (λ b. heeded m first second third (cond b (Acts second) (Sets second))) r
 
     pub frame_repeats : sets m second third ≡ true → again m first second third ≡ true
         → frame_model m first second third ≡ forgetting (numbered_model m second third)
     unfolding heeded
-    frame_repeats s r = frame-sets s r
+    frame_repeats s r = frame_sets s r
 
     pub frame_first : sets m second third ≡ true → again m first second third ≡ false
         → frame_model m first second third ≡ remembering first second third (under_way m)
     unfolding heeded
-    frame_first s r = frame-sets s r
+    frame_first s r = frame_sets s r
 
     -- so what counts is as byte 3 leaves it, or only remembered
     pub frame_counts : (P : Model → Type 0) → P (forgetting (numbered_model m second third)) → P (remembering first second third (under_way m))

@@ -229,29 +229,29 @@ module _ (P : Asked → Type 0) (rest : List ℕ) (m : Model)
     timely false e true f = refuse BeyondTable (omega arith)
     timely false e false f = time (ltb-false (4294967295 - m.tick) (word rest 2) e) (ltb-false m.last (m.tick + word rest 2) f)
 
-    kind-by : (k : Mark) → P (asked_by k rest m)
+    kind_by : (k : Mark) → P (asked_by k rest m)
     unfolding asked_by declare_asked sample_asked frame_asked ticks_asked number_of
-    kind-by Unknown = refuse UnknownMark (omega arith)
-    kind-by Declaration =
+    kind_by Unknown = refuse UnknownMark (omega arith)
+    kind_by Declaration =
         by_test P (ltb (length rest) (mark_size Declaration)) _ _ (refuse Cut (omega arith))
         (by_test P (m.running || not (eqb (byte rest 2) m.declared)) _ _ (refuse LateOrSkipped (omega arith))
         (by_test P (ltb (byte rest 2) 16) _ _
         (by_sensor P (declared_in rest) declares (refuse NoSuchSensor (omega arith))) (refuse NoSuchSensor (omega arith))))
-    kind-by Measurement =
+    kind_by Measurement =
         by_test P (ltb (length rest) (mark_size Measurement)) _ _ (refuse Cut (omega arith))
         (by_test P (known m (byte rest 2)) _ _
         (by_test P (allowed m (byte rest 2) (sample_in rest)) _ _
         (by_test P (goes_back (instance_at m (byte rest 2)) (sample_in rest)) _ _ (refuse NotReadyAgain (omega arith)) holds)
         (refuse BadSample (omega arith)))
         (refuse Undeclared (omega arith)))
-    kind-by Bus = by_test P (ltb (length rest) (mark_size Bus)) _ _ (refuse Cut (omega arith)) frames
-    kind-by Time =
+    kind_by Bus = by_test P (ltb (length rest) (mark_size Bus)) _ _ (refuse Cut (omega arith)) frames
+    kind_by Time =
         by_test P (ltb (length rest) (mark_size Time)) _ _ (refuse Cut (omega arith))
         (by_test P (eqb (word rest 2) 0) _ _ (refuse NoTicks (omega arith)) (timely (ltb (4294967295 - m.tick) (word rest 2)) refl (ltb m.last (m.tick + word rest 2)) refl))
 
     pub by_kinds : P (asked rest m)
     unfolding asked number_of
-    by_kinds = by_test P (ltb (length rest) 2) _ _ (refuse Cut (omega arith)) (kind-by (mark_of (word rest 0)))
+    by_kinds = by_test P (ltb (length rest) 2) _ _ (refuse Cut (omega arith)) (kind_by (mark_of (word rest 0)))
 
 -- ---- the ticks that a record asks for are within the time that is left, and two bytes hold them
 abbrev pub ticks_of : Asked → ℕ

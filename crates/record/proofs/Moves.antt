@@ -20,8 +20,8 @@ module _ (start i : ℕ) (b : List ℕ) where
   front_long : start + i ≤ length b → length (slice start (start + i) b) ≡ i
   front_long h = length-slice start (start + i) b h ∙ omega arith
 
-  as-front : start + i ≤ length b → moved start i b ≡ slice start (start + i) b ++ drop i b
-  as-front h = put_front (slice start (start + i) b) b ∙ ap (λ (k : ℕ). slice start (start + i) b ++ drop k b) (front_long h)
+  as_front : start + i ≤ length b → moved start i b ≡ slice start (start + i) b ++ drop i b
+  as_front h = put_front (slice start (start + i) b) b ∙ ap (λ (k : ℕ). slice start (start + i) b ++ drop k b) (front_long h)
 
   module _ (fits : start + i < length b) where
     -- the byte that is read has not been stored to yet
@@ -48,19 +48,19 @@ module _ (start i : ℕ) (b : List ℕ) where
         ∙ sym (append_snoc P a (drop (suc i) b))
         ∙ ap (λ (l : List ℕ). l ++ drop (suc i) b) (sym one_more_lem)
 
-    read-and-stored : set (moved start i b) i (get_or (moved start i b) (start + i) 0) ≡ slice start (suc (start + i)) b ++ drop (suc i) b
-    read-and-stored =
-        ap (λ (l : List ℕ). set l i (get_or l (start + i) 0)) (as-front (omega arith))
+    read_and_stored : set (moved start i b) i (get_or (moved start i b) (start + i) 0) ≡ slice start (suc (start + i)) b ++ drop (suc i) b
+    read_and_stored =
+        ap (λ (l : List ℕ). set l i (get_or l (start + i) 0)) (as_front (omega arith))
         ∙ ap (λ (x : ℕ). set (slice start (start + i) b ++ drop i b) i x) reads
         ∙ stored
 
 pub moves : (start i : ℕ) (b : List ℕ) → start + i < length b → set (moved start i b) i (get_or (moved start i b) (start + i) 0) ≡ moved start (i + 1) b
 moves start i b fits =
     let up : start + (i + 1) ≡ suc (start + i) = omega arith in
-    read-and-stored start i b fits
+    read_and_stored start i b fits
     ∙ ap (λ (k : ℕ). slice start k b ++ drop (suc i) b) (sym up)
     ∙ ap (λ (k : ℕ). slice start (start + (i + 1)) b ++ drop k b) (sym (add-one i))
-    ∙ sym (as-front start (i + 1) b (omega arith))
+    ∙ sym (as_front start (i + 1) b (omega arith))
 
 pub moves_none : (start : ℕ) (b : List ℕ) → b ≡ moved start 0 b
 moves_none start b = sym (ap (λ (l : List ℕ). put 0 l b) (rw add-zero (slice_empty start b)) ∙ put_nothing 0 b)

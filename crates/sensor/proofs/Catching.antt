@@ -41,27 +41,27 @@ module _ (m : Movement) (s : Settings) (clear : movement_in s.filter ≡ 0) wher
       go true = omega arith
       go false = omega (arith, clear)
 
-  waits-owed : (came : ℕ) → movement_in (waits (letting m s) m.seen.waiting came) ≤ owed (kinds.Movement m)
+  waits_owed : (came : ℕ) → movement_in (waits (letting m s) m.seen.waiting came) ≤ owed (kinds.Movement m)
   unfolding waits
-  waits-owed came = go (letting m s).enabled
+  waits_owed came = go (letting m s).enabled
     where
       go : (enabled : Bool) → movement_in (cond enabled (bit_or m.seen.waiting (bit_and came (letting m s).filter)) 0) ≤ owed (kinds.Movement m)
       go true = rw (in_or m.seen.waiting (bit_and came (letting m s).filter), in_and came (letting m s).filter) (omega (arith, lets))
       go false = omega arith
 
-  seen-owed : (held : Sample) → movement_in (seen_after m s held).waiting ≤ owed (kinds.Movement m)
+  seen_owed : (held : Sample) → movement_in (seen_after m s held).waiting ≤ owed (kinds.Movement m)
   unfolding occupancy_taken shown
-  seen-owed held = go (eqb held.status 0) refl
+  seen_owed held = go (eqb held.status 0) refl
     where
       go : (valid : Bool) → eqb held.status 0 ≡ valid → movement_in (seen_after m s held).waiting ≤ owed (kinds.Movement m)
-      go true e = rw e (waits-owed _)
+      go true e = rw e (waits_owed _)
       go false e = rw e (omega arith)
 
 taken_owed : (k : Kind) (s : Settings) (held : Sample) → movement_in s.filter ≡ 0 → owed (taken k s held) ≤ owed k
 unfolding taken movement_taken
 taken_owed (kinds.Light l) s held clear = omega arith
 taken_owed (kinds.Occupancy o) s held clear = omega arith
-taken_owed (kinds.Movement m) s held clear = omega (arith, seen-owed m s clear held)
+taken_owed (kinds.Movement m) s held clear = omega (arith, seen_owed m s clear held)
 taken_owed (kinds.Colour c) s held clear = omega arith
 
 -- ---- an event clears what waits; one that has Movement among its causes ends catching

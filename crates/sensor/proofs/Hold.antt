@@ -45,10 +45,10 @@ module _ (m : Movement) (s : Settings) (held : Sample) (ready : eqb held.status 
   unfolding occupancy_taken shown
   taken_waiting = rw (ready, area_whole m.seen.value (moves held) (eqb (m.hold - 1) 0))
 
-  taken-area : {new left : ℕ} → new_value m held ≡ new → hold_after s m.seen.value new (m.hold - 1) ≡ left
+  taken_area : {new left : ℕ} → new_value m held ≡ new → hold_after s m.seen.value new (m.hold - 1) ≡ left
       → Area (taken (kinds.Movement m) s held) new left
   unfolding taken movement_taken
-  taken-area e h = record { sensor = movement_taken m s held; is = refl; shows = taken_value ∙ e; holds = rw (taken_value, e) h }
+  taken_area e h = record { sensor = movement_taken m s held; is = refl; shows = taken_value ∙ e; holds = rw (taken_value, e) h }
 
 -- ---- "no Occupied trigger arises from 0xAA"
 pub none_occupied : (m : Movement) (held : Sample) → m.seen.value ≡ 2 → came m held % 2 ≡ 0
@@ -63,20 +63,20 @@ none_occupied m held e = rw e (go (moves held) (eqb (m.hold - 1) 0))
 -- ---- without movement
 module _ (m : Movement) (s : Settings) (held : Sample) (ready : eqb held.status 0 ≡ true) (still : moves held ≡ false) where
   -- from 0xFF to 0xAA with No movement, and the hold timer starts
-  taken-stills : m.seen.value ≡ 3 → Area (taken (kinds.Movement m) s held) 2 (hold_time s) × (came m held ≡ 16)
+  taken_stills : m.seen.value ≡ 3 → Area (taken (kinds.Movement m) s held) 2 (hold_time s) × (came m held ≡ 16)
   unfolding area stilled hold_after triggers change
-  taken-stills e = (taken-area m s held ready (rw (still, e)) (rw e), rw (still, e))
+  taken_stills e = (taken_area m s held ready (rw (still, e)) (rw e), rw (still, e))
 
   -- at 0xAA it falls
-  taken-holds : m.seen.value ≡ 2 → 1 < m.hold → Area (taken (kinds.Movement m) s held) 2 (m.hold - 1) × (came m held ≡ 0)
+  taken_holds : m.seen.value ≡ 2 → 1 < m.hold → Area (taken (kinds.Movement m) s held) 2 (m.hold - 1) × (came m held ≡ 0)
   unfolding area stilled hold_after triggers change
-  taken-holds e h = let lasts : eqb (m.hold - 1) 0 ≡ false = ne_eqb (m.hold - 1) 0 (λ z. omega arith) in
-      (taken-area m s held ready (rw (still, e, lasts)) (rw e), rw (still, e, lasts))
+  taken_holds e h = let lasts : eqb (m.hold - 1) 0 ≡ false = ne_eqb (m.hold - 1) 0 (λ z. omega arith) in
+      (taken_area m s held ready (rw (still, e, lasts)) (rw e), rw (still, e, lasts))
 
   -- and expires: to 0x00 with Vacant
-  taken-expires : m.seen.value ≡ 2 → m.hold ≡ 1 → Area (taken (kinds.Movement m) s held) 0 0 × (came m held ≡ 2)
+  taken_expires : m.seen.value ≡ 2 → m.hold ≡ 1 → Area (taken (kinds.Movement m) s held) 0 0 × (came m held ≡ 2)
   unfolding area stilled hold_after triggers change
-  taken-expires e h = (taken-area m s held ready (rw (still, e, h)) refl, rw (still, e, h))
+  taken_expires e h = (taken_area m s held ready (rw (still, e, h)) refl, rw (still, e, h))
 
 -- ---- an event leaves both as they are
 sent_area : (k : Kind) (s : Settings) {value left : ℕ} → Area k value left → Area (sent k s) value left
@@ -95,12 +95,12 @@ tick_area x {value} {left} a = go (decision_at x)
 -- ---- A TICK of an instance with a valid sample without movement
 module _ (x : Instance) (ready : valid x ≡ true) (still : moves x.held ≡ false) where
   pub tick_stills : {left : ℕ} → Area x.kind 3 left → Area (ticked x).instance.kind 2 (hold_time x.settings)
-  tick_stills a = tick_area x (rw a.is (taken-stills a.sensor x.settings x.held ready still a.shows).0)
+  tick_stills a = tick_area x (rw a.is (taken_stills a.sensor x.settings x.held ready still a.shows).0)
 
   pub tick_holds : {left : ℕ} → 1 < left → Area x.kind 2 left → Area (ticked x).instance.kind 2 (left - 1)
   tick_holds h a =
-      let falls = (taken-holds a.sensor x.settings x.held ready still a.shows (rw a.holds h)).0 in
+      let falls = (taken_holds a.sensor x.settings x.held ready still a.shows (rw a.holds h)).0 in
       tick_area x (rw (a.is, ← a.holds) falls)
 
   pub tick_expires : Area x.kind 2 1 → Area (ticked x).instance.kind 0 0
-  tick_expires a = tick_area x (rw a.is (taken-expires a.sensor x.settings x.held ready still a.shows a.holds).0)
+  tick_expires a = tick_area x (rw a.is (taken_expires a.sensor x.settings x.held ready still a.shows a.holds).0)

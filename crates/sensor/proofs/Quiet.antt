@@ -137,26 +137,26 @@ module _ (m : Movement) (s : Settings) (held : Sample) (n : ℕ) (e : movement_s
   unfolding movement_falls_for
   lasts valid still = let some : n < m.hold - 1 = rw (valid, still) at h in ne_eqb (m.hold - n - 1) 0 (λ z. omega arith)
 
-  seen-settled : occupancy_settled m.seen s (shown m held over) ≡ true
+  seen_settled : occupancy_settled m.seen s (shown m held over) ≡ true
   unfolding movement_settled occupancy_settled shown
-  seen-settled = go (eqb held.status 0) refl (both _ _ e).0
+  seen_settled = go (eqb held.status 0) refl (both _ _ e).0
     where
-      settled-by : (valid over : Bool) → Bool
-      settled-by valid over =
+      settled_by : (valid over : Bool) → Bool
+      settled_by valid over =
           cond valid (eqb m.seen.value (area m.seen.value (eqb (held.value % 2) 1) over % 4) && (s.enabled || eqb m.seen.waiting 0)) (eqb m.seen.waiting 0)
 
-      go : (valid : Bool) → eqb held.status 0 ≡ valid → settled-by valid false ≡ true → settled-by valid over ≡ true
+      go : (valid : Bool) → eqb held.status 0 ≡ valid → settled_by valid false ≡ true → settled_by valid over ≡ true
       go true v t = rw (area_lasts m.seen.value (eqb (held.value % 2) 1) over (lasts v)) t
       go false v t = t
 
-  seen-stays : seen_after (movement_rested m n) s held ≡ m.seen
+  seen_stays : seen_after (movement_rested m n) s held ≡ m.seen
   unfolding movement_rested letting occupancy_settled shown
-  seen-stays = occupancy_stays m.seen (letting m s) (shown m held over) seen-settled
+  seen_stays = occupancy_stays m.seen (letting m s) (shown m held over) seen_settled
 
-  movement-rests : movement_taken (movement_rested m n) s held ≡ movement_rested m (suc n)
+  movement_rests : movement_taken (movement_rested m n) s held ≡ movement_rested m (suc n)
   unfolding movement_taken movement_rested movement_settled
-  movement-rests =
-      ap (λ o. with_seen o (with_hold_left (hold_after s m.seen.value o.value (m.hold - n - 1)) m)) seen-stays
+  movement_rests =
+      ap (λ o. with_seen o (with_hold_left (hold_after s m.seen.value o.value (m.hold - n - 1)) m)) seen_stays
       ∙ ap (λ left. with_hold_left left m) (hold_falls s m.seen.value m.hold n (both (occupancy_settled m.seen s (shown m held false)) _ e).1)
 
 kind_rests : (k : Kind) (s : Settings) (held : Sample) (n : ℕ) → settled k s held ≡ true → n < falls_for k held
@@ -164,7 +164,7 @@ kind_rests : (k : Kind) (s : Settings) (held : Sample) (n : ℕ) → settled k s
 unfolding settled falls_for rested_kind taken
 kind_rests (kinds.Light l) s held n e h = ap kinds.Light (light_stays l held e)
 kind_rests (kinds.Occupancy o) s held n e h = ap kinds.Occupancy (occupancy_stays o s held e)
-kind_rests (kinds.Movement m) s held n e h = ap kinds.Movement (movement-rests m s held n e h)
+kind_rests (kinds.Movement m) s held n e h = ap kinds.Movement (movement_rests m s held n e h)
 kind_rests (kinds.Colour c) s held n e h = ap kinds.Colour (colour_stays c held e)
 
 -- which neither the rules nor a cause ask for

@@ -32,17 +32,17 @@ module _ (room : ℕ) (pre : List Logged) where
   abbrev left : ℕ
   left = room - length (bytes_of pre)
 
-  fits-behind : (log more : List Logged) → fits room (pre ++ log) more ≡ fits left log more
+  fits_behind : (log more : List Logged) → fits room (pre ++ log) more ≡ fits left log more
   unfolding fits
-  fits-behind log more =
+  fits_behind log more =
       rw (bytes_append, length-append)
       (ap (leb (length (bytes_of more))) (omega arith))
 
-  ticking-behind : (n done : ℕ) (m : Model) (log : List Logged) → ticking n done room m (pre ++ log) ≡ after_log pre (ticking n done left m log)
+  ticking_behind : (n done : ℕ) (m : Model) (log : List Logged) → ticking n done room m (pre ++ log) ≡ after_log pre (ticking n done left m log)
   unfolding ticking
-  ticking-behind zero done m log = refl
-  ticking-behind (suc n) done m log =
-      rw (fits-behind log (tick_log m), ticking) (go (fits left log (tick_log m)) (ticking-behind n (done + 1) (tick_model m) (log ++ tick_log m)))
+  ticking_behind zero done m log = refl
+  ticking_behind (suc n) done m log =
+      rw (fits_behind log (tick_log m), ticking) (go (fits left log (tick_log m)) (ticking_behind n (done + 1) (tick_model m) (log ++ tick_log m)))
     where
       go : (b : Bool)
           → ticking n (done + 1) room (tick_model m) (pre ++ (log ++ tick_log m)) ≡ after_log pre (ticking n (done + 1) left (tick_model m) (log ++ tick_log m))
@@ -56,14 +56,14 @@ module _ (room : ℕ) (pre : List Logged) where
   step_behind (Refused why) m log = refl
   step_behind (Declare sensor) m log = refl
   step_behind (Hold i sample) m log = refl
-  step_behind (Frame first second third) m log = rw (fits-behind log (frame_log m first second third), step) (go (fits left log (frame_log m first second third)))
+  step_behind (Frame first second third) m log = rw (fits_behind log (frame_log m first second third), step) (go (fits left log (frame_log m first second third)))
     where
       go : (b : Bool)
           → elim b [ true ↦ taken (frame_model m first second third) ((pre ++ log) ++ frame_log m first second third) | false ↦ refused Full 0 m (pre ++ log) ]
           ≡ after_log pre (elim b [ true ↦ taken (frame_model m first second third) (log ++ frame_log m first second third) | false ↦ refused Full 0 m log ])
       go true = rw append_assoc
       go false = refl
-  step_behind (Ticks n) m log = ticking-behind n 0 m log
+  step_behind (Ticks n) m log = ticking_behind n 0 m log
 
 -- ---- a reading goes on by one record
 abbrev pub ended : (number at t : ℕ) → Model → List Logged → End

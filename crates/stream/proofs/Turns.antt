@@ -30,12 +30,12 @@ module _ (p : Progress) (came : ℕ) (input output : List ℕ) {end : ℕ} {o : 
       by (yes h) = let e : end ≡ p.unread + came = omega arith in ap (λ (k : ℕ). take k input) e
       by (no h) = take_all end input (omega arith) ∙ sym (take_all (p.unread + came) input (omega arith))
 
-  is-lent : take (end - 0) input ≡ held p came input
-  is-lent = ap (λ (k : ℕ). take k input) (sub-zero end) ∙ is_held
+  is_lent : take (end - 0) input ≡ held p came input
+  is_lent = ap (λ (k : ℕ). take k input) (sub-zero end) ∙ is_held
 
-  is-ended : o ≡ outcome (ended p came input output)
+  is_ended : o ≡ outcome (ended p came input output)
   unfolding ended
-  is-ended = is_read ∙ ap (λ (l : List ℕ). outcome (session p.model l (length output))) is-lent
+  is_ended = is_read ∙ ap (λ (l : List ℕ). outcome (session p.model l (length output))) is_lent
 
   -- the three parts of a step's promise
   pub step_comes : {n left records passed : ℕ} → n ≡ records_in (take (o.offset - 0) input) → left ≡ end - o.offset
@@ -44,7 +44,7 @@ module _ (p : Progress) (came : ℕ) (input output : List ℕ) {end : ℕ} {o : 
   unfolding stepped progressed outcome
   step_comes {n} {left} {records} {passed} is-n is-left is-records is-passed =
       let e = ended p came input output in
-      let at : o.offset ≡ e.offset = ap (λ (x : Outcome). x.offset) is-ended in
+      let at : o.offset ≡ e.offset = ap (λ (x : Outcome). x.offset) is_ended in
       let inside : e.offset ≤ p.unread + came = omega (arith, within p.model end input (length output) is_read) in
       let taken : n ≡ records_in (take e.offset (held p came input)) =
       is-n ∙ ap (λ (k : ℕ). records_in (take k input)) (sub-zero o.offset ∙ at) ∙ ap records_in (sym (take-take e.offset (p.unread + came) input inside)) in
@@ -53,8 +53,8 @@ module _ (p : Progress) (came : ℕ) (input output : List ℕ) {end : ℕ} {o : 
       let passes : passed ≡ (p.passed + e.offset) % 2 ^ 64 = is-passed ∙ ap (λ (k : ℕ). (p.passed + k) % 2 ^ 64) at in
       λ i.
       record {
-        progress = record { model = (is-ended i).model; unread = rest i; number = (is-ended i).number; records = counts i; passed = passes i };
-        written = (is-ended i).written;
+        progress = record { model = (is_ended i).model; unread = rest i; number = (is_ended i).number; records = counts i; passed = passes i };
+        written = (is_ended i).written;
       }
 
   pub step_kept : {i : List ℕ} → i ≡ put 0 (remaining o.ticks (slice o.offset end input)) input → i ≡ input_after p came input output
@@ -62,12 +62,12 @@ module _ (p : Progress) (came : ℕ) (input output : List ℕ) {end : ℕ} {o : 
   step_kept {i} e =
       let a = ended p came input output in
       e
-      ∙ ap (λ (x : Outcome). put 0 (remaining x.ticks (drop x.offset (take end input))) input) is-ended
+      ∙ ap (λ (x : Outcome). put 0 (remaining x.ticks (drop x.offset (take end input))) input) is_ended
       ∙ ap (λ (l : List ℕ). put 0 (remaining a.ticks (drop a.offset l)) input) is_held
 
   pub step_logged : {out : List ℕ} → out ≡ put 0 (bytes_of (session p.model (take (end - 0) input) (length output)).log) output → out ≡ output_after p came input output
   unfolding output_after ended
-  step_logged e = e ∙ ap (λ (l : List ℕ). put 0 (bytes_of (session p.model l (length output)).log) output) is-lent
+  step_logged e = e ∙ ap (λ (l : List ℕ). put 0 (bytes_of (session p.model l (length output)).log) output) is_lent
 
 -- ---- after a step
 front : (l b : List ℕ) → take (length l) (put 0 l b) ≡ l

@@ -1,5 +1,7 @@
 // Reading a session in pieces, through buffers that are shorter than it (document 01, "The bench model"): one step reads what is held,
 // keeps what is unread at the front of the input buffer, and its number says what must come before the next.
+#![tactic(auto)]
+
 ghost use Rattle.std.specs.Prelude.{◌≡◌, ◌+◌, ◌-◌, ◌≤◌, min, length};
 ghost use Rattle.record.specs.Marks.{mark_of};
 ghost use Rattle.record.specs.Put.{put};

@@ -143,15 +143,15 @@ quiet_none most (suc k) (suc n) (x ∷ xs) d h w e = rw (quiet_none most k n xs 
 
 module _ (m : Model) (most : ℕ) (all : length m.instances ≡ 16) where
   -- all of at most 16 are all that are declared
-  quiet-whole : quiet_all most (take (min m.declared 16) m.instances) ≡ quiet_ticks m most
+  quiet_whole : quiet_all most (take (min m.declared 16) m.instances) ≡ quiet_ticks m most
   unfolding quiet_ticks
-  quiet-whole = rw (capped m.declared m.instances all).0
+  quiet_whole = rw (capped m.declared m.instances all).0
 
   pub quiet_asked : {i t : ℕ} → i ≡ min m.declared 16 → t ≡ quiet_all most (take i m.instances) → t ≡ quiet_ticks m most
-  quiet_asked e p = p ∙ rw e quiet-whole
+  quiet_asked e p = p ∙ rw e quiet_whole
 
   pub quiet_stop : (i : ℕ) (d : Instance) {q : ℕ} → i < min m.declared 16 → q ≡ quiet_for (get_or m.instances i d) → q ≡ 0 → 0 ≡ quiet_ticks m most
-  quiet_stop i d h p z = sym (quiet_none most i (min m.declared 16) m.instances d h (omega arith) (sym p ∙ z)) ∙ quiet-whole
+  quiet_stop i d h p z = sym (quiet_none most i (min m.declared 16) m.instances d h (omega arith) (sym p ∙ z)) ∙ quiet_whole
 
 -- ---- the loop of `rest`
 -- the device once its first i instances have rested

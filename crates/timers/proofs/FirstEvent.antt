@@ -26,16 +26,16 @@ module _ (r : Rules) (on : r.enabled ≡ true) (lets : r.repeat ≡ true) where
   abbrev running : (d k : ℕ) → Timers
   running d k = record { dead = d; report = Left k }
 
-  decided-so : (d k : ℕ) (c : Bool) → decided r true (running d k) c ≡ cond (eqb d 0) (cond c Triggered (cond (eqb k 0 && true) Reported Silent)) Silent
+  decided_so : (d k : ℕ) (c : Bool) → decided r true (running d k) c ≡ cond (eqb d 0) (cond c Triggered (cond (eqb k 0 && true) Reported Silent)) Silent
   unfolding decided due
-  decided-so d k c = rw (on, lets)
+  decided_so d k c = rw (on, lets)
 
   -- the next tick sends; or it does not, and the report is not yet due
   next : (d k : ℕ) (c : Bool) → d ≤ k
       → (sends (decided r true (running d k) c) ≡ true)
       ⊎ ((sends (decided r true (running d k) c) ≡ false) × (after (decided r true (running d k) c) r (running d k) ≡ running d k) × (0 < k))
   unfolding sends after
-  next d k c h = rw (decided-so d k c) (go d k c h)
+  next d k c h = rw (decided_so d k c) (go d k c h)
     where
       decision : (d k : ℕ) → Bool → Decision
       decision d k c = cond (eqb d 0) (cond c Triggered (cond (eqb k 0 && true) Reported Silent)) Silent

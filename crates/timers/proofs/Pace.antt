@@ -58,9 +58,9 @@ module _ (r : Rules) (g : Reporting r) where
   unfolding started started_report
   started_since = rw (ne_eqb r.report 0 (λ e. omega (arith, g.set))) (λ i. record { dead = whole (dead_time r) i; report = Left (whole (report_time r) i) })
 
-  fallen-since : (k : ℕ) → fallen (since r k) ≡ since r (suc k)
+  fallen_since : (k : ℕ) → fallen (since r k) ≡ since r (suc k)
   unfolding fallen fallen_report
-  fallen-since k = λ i. record { dead = p i; report = Left (q i) }
+  fallen_since k = λ i. record { dead = p i; report = Left (q i) }
     where
       p : dead_time r - k - 1 ≡ dead_time r - suc k
       p = omega arith
@@ -97,7 +97,7 @@ module _ (r : Rules) (g : Reporting r) where
 
   one_more_lem : (c : Bool) (cs : List Bool) → SpacedOver cs → SpacedOver (c ∷ cs)
   unfolding Next sendings
-  one_more_lem c cs ih k last h = go (fallen (since r k)) (fallen-since k)
+  one_more_lem c cs ih k last h = go (fallen (since r k)) (fallen_since k)
     where
       moved : (l : ℕ) {n n' m m' : ℕ} {t t' : Timers} → t ≡ t' → n ≡ n' → m ≡ m' → Spaced (max (dead_time r) 1) (report_time r) l (sendings r t n cs) m → Spaced (max (dead_time r) 1) (report_time r) l (sendings r t' n' cs) m'
       moved l p q e s = subst₃ (λ t n m. Spaced (max (dead_time r) 1) (report_time r) l (sendings r t n cs) m) p q e s

@@ -1,6 +1,8 @@
 // For the comparison with the second implementation alone: a session read from a later tick number than 0, since the last number,
 // 4,294,967,295, is out of a test's reach; and behind another session, since a refused record ends its own, and what it left of the
 // model shows only in another.
+#![tactic(auto)]
+
 ghost use Rattle.record.specs.Log.{bytes_of};
 ghost use Rattle.record.specs.Put.{put};
 ghost use Rattle.session.specs.Session.{for_c, session};

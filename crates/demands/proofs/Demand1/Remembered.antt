@@ -34,30 +34,30 @@ kept : {a b : Bool} → b ≡ a → b ≡ (a || false)
 kept {a} e = e ∙ sym (or-false a)
 
 module _ {i : ℕ} where
-  held-measured : (m : Model) → Present i m → (j : ℕ) (sample : Sample)
+  held_measured : (m : Model) → Present i m → (j : ℕ) (sample : Sample)
       → (instance_at (held_model m j sample) i).measured ≡ ((instance_at m i).measured || (eqb j i && eqb sample.status 0))
-  held-measured m p j sample = by (ℕ_discrete i j)
+  held_measured m p j sample = by (ℕ_discrete i j)
     where
       by : Dec (i ≡ j) → (instance_at (held_model m j sample) i).measured ≡ ((instance_at m i).measured || (eqb j i && eqb sample.status 0))
       by (yes same) = rw (eq-eqb j i (sym same), sym same) (ap (λ x. x.measured) (held_own sample p) ∙ sample_measured (instance_at m i) sample)
       by (no other) = rw (ne_eqb j i (λ e. other (sym e))) (kept (ap (λ x. x.measured) (held_other m j sample i other)))
 
-  happen-measured : (m : Model) → Present i m → (h : Happening) → (instance_at (happen m h) i).measured ≡ ((instance_at m i).measured || measures i h)
-  happen-measured m p (declare sensor) = kept (ap (λ x. x.measured) (declared_other m sensor i (λ e. omega (arith, p.declared))))
-  happen-measured m p (hold j sample) = held-measured m p j sample
-  happen-measured m p (frame first second third) = kept (frame_measured m first second third i)
-  happen-measured m p tick = kept (ap (λ x. x.measured) (ticked_own p) ∙ tick_measured (instance_at m i))
+  happen_measured : (m : Model) → Present i m → (h : Happening) → (instance_at (happen m h) i).measured ≡ ((instance_at m i).measured || measures i h)
+  happen_measured m p (declare sensor) = kept (ap (λ x. x.measured) (declared_other m sensor i (λ e. omega (arith, p.declared))))
+  happen_measured m p (hold j sample) = held_measured m p j sample
+  happen_measured m p (frame first second third) = kept (frame_measured m first second third i)
+  happen_measured m p tick = kept (ap (λ x. x.measured) (ticked_own p) ∙ tick_measured (instance_at m i))
 
   -- after a run it has had one where it had one before, or where one was taken for it
-  run-measured : (m : Model) → Present i m → (hs : List Happening)
+  run_measured : (m : Model) → Present i m → (hs : List Happening)
       → (instance_at (model_after m hs) i).measured ≡ ((instance_at m i).measured || measured_in i hs)
   unfolding measured_in model_after
-  run-measured m p [] = sym (or-false (instance_at m i).measured)
-  run-measured m p (h ∷ hs) =
-      run-measured (happen m h) (happen_present m h p) hs
-      ∙ ap (λ b. b || measured_in i hs) (happen-measured m p h)
+  run_measured m p [] = sym (or-false (instance_at m i).measured)
+  run_measured m p (h ∷ hs) =
+      run_measured (happen m h) (happen_present m h p) hs
+      ∙ ap (λ b. b || measured_in i hs) (happen_measured m p h)
       ∙ or_assoc (instance_at m i).measured (measures i h) (measured_in i hs)
 
   pub session_measured : (m : Model) → Present i m → (xs : List ℕ) (room : ℕ)
       → (instance_at (session m xs room).model i).measured ≡ ((instance_at m i).measured || measured_in i (carried m xs room))
-  session_measured m p xs room = ap (λ k. (instance_at k i).measured) (session_model m xs room) ∙ run-measured m p (carried m xs room)
+  session_measured m p xs room = ap (λ k. (instance_at k i).measured) (session_model m xs room) ∙ run_measured m p (carried m xs room)

@@ -75,13 +75,13 @@ with_tells {b} {P} s t = tells_as to from (tells_cond (tells_eqb s.status 0) t (
     Either : Type 0
     Either = ((s.status ≡ 0) × P) ⊎ ((s.status ≡ 1) × (s.value ≡ 0)) ⊎ ((s.status ≡ 2) × (s.value ≡ 0))
 
-    one-or-two : Dec (s.status ≡ 1) → s.status ≢ 0 → s.status ≤ 2 → s.value ≡ 0 → Either
-    one-or-two (yes a) n le z = inr (inl (a, z))
-    one-or-two (no a) n le z = inr (inr (omega arith, z))
+    one_or_two : Dec (s.status ≡ 1) → s.status ≢ 0 → s.status ≤ 2 → s.value ≡ 0 → Either
+    one_or_two (yes a) n le z = inr (inl (a, z))
+    one_or_two (no a) n le z = inr (inr (omega arith, z))
 
     to : ((s.status ≡ 0) × P) ⊎ ((s.status ≢ 0) × ((s.status ≤ 2) × (s.value ≡ 0))) → Either
     to (inl (a, p)) = inl (a, p)
-    to (inr (a, (b, c))) = one-or-two (ℕ_discrete s.status 1) a b c
+    to (inr (a, (b, c))) = one_or_two (ℕ_discrete s.status 1) a b c
 
     from : Either → ((s.status ≡ 0) × P) ⊎ ((s.status ≢ 0) × ((s.status ≤ 2) × (s.value ≡ 0)))
     from (inl (a, p)) = inl (a, p)
@@ -112,9 +112,9 @@ back_tells x s = tells_and (tells_bool x.measured) (tells_eqb s.status 1)
 
 module _ (rest : List ℕ) (m : Model) where
   -- ---- a row that holds is given
-  no-sensor : Declaring rest → NoSensor rest
+  no_sensor : Declaring rest → NoSensor rest
       → cond (ltb (byte rest 2) 16) (sensor_asked (declared_in rest)) (Refused NoSuchSensor) ≡ Refused NoSuchSensor
-  no-sensor k s = go (dec_lt (byte rest 2) 16)
+  no_sensor k s = go (dec_lt (byte rest 2) 16)
     where
       go : Dec (byte rest 2 < 16) → cond (ltb (byte rest 2) 16) (sensor_asked (declared_in rest)) (Refused NoSuchSensor) ≡ Refused NoSuchSensor
       go (yes h) = rw (lt-ltb (byte rest 2) 16 h) (ap sensor_asked (none_declared rest k h s))
@@ -135,7 +135,7 @@ module _ (rest : List ℕ) (m : Model) where
         le-ltb (length rest) (mark_size Declaration) h,
         fails (late_tells rest m) n,
       )
-      (no-sensor k s)
+      (no_sensor k s)
   given bytes Undeclared (k, h, n) = sa_asked rest m k ∙ rw (le-ltb (length rest) (mark_size Measurement) h, fails (known_tells m (byte rest 2)) n)
   given bytes BadSample (k, h, d, n) =
       sa_asked rest m k
@@ -169,9 +169,9 @@ module _ (rest : List ℕ) (m : Model) where
   Says (Frame first second third) = Unit {0}
   Says (Ticks n) = Unit {0}
 
-  declaring-says : Declaring rest → Says (declare_asked rest m)
+  declaring_says : Declaring rest → Says (declare_asked rest m)
   unfolding declare_asked
-  declaring-says k =
+  declaring_says k =
       go (ltb (length rest) (mark_size Declaration)) refl (m.running || not (eqb (byte rest 2) m.declared)) refl
       (ltb (byte rest 2) 16) refl (declared_in rest) refl
     where
@@ -185,9 +185,9 @@ module _ (rest : List ℕ) (m : Model) where
       go false e false f false g d h =
           (k, ltb-false (length rest) (mark_size Declaration) e, (late_tells rest m).no f, inl (ltb-false (byte rest 2) 16 g))
 
-  sa-says : SA rest → Says (sample_asked rest m)
+  sa_says : SA rest → Says (sample_asked rest m)
   unfolding sample_asked
-  sa-says k =
+  sa_says k =
       go (ltb (length rest) (mark_size Measurement)) refl (known m (byte rest 2)) refl (allowed m (byte rest 2) (sample_in rest)) refl
       (goes_back (instance_at m (byte rest 2)) (sample_in rest)) refl
     where
@@ -206,17 +206,17 @@ module _ (rest : List ℕ) (m : Model) where
           (k, ltb-false (length rest) (mark_size Measurement) e, there, takes, (back_tells (instance_at m (byte rest 2)) (sample_in rest)).yes h)
       go false e true f true g false h = tt
 
-  fr-says : FR rest → Says (frame_asked rest)
+  fr_says : FR rest → Says (frame_asked rest)
   unfolding frame_asked
-  fr-says k = go (ltb (length rest) (mark_size Bus)) refl
+  fr_says k = go (ltb (length rest) (mark_size Bus)) refl
     where
       go : (a : Bool) → ltb (length rest) (mark_size Bus) ≡ a → Says (cond a (Refused Cut) (Frame (byte rest 2) (byte rest 3) (byte rest 4)))
       go true e = inr (inr (inr (inl (k, ltb-true (length rest) (mark_size Bus) e))))
       go false e = tt
 
-  tk-says : TK rest → Says (ticks_asked rest m)
+  tk_says : TK rest → Says (ticks_asked rest m)
   unfolding ticks_asked
-  tk-says k =
+  tk_says k =
       go (ltb (length rest) (mark_size Time)) refl (eqb (word rest 2) 0) refl (ltb (4294967295 - m.tick) (word rest 2)) refl
       (ltb m.last (m.tick + word rest 2)) refl
     where
@@ -240,10 +240,10 @@ module _ (rest : List ℕ) (m : Model) where
     where
       by : (k : Mark) → 2 ≤ length rest → MarkIs k rest → Says (asked_by k rest m)
       by Unknown l (a, o, v, b, c, d) = (l, a, o, v, b, c, d)
-      by Declaration l k = declaring-says k
-      by Measurement l k = sa-says k
-      by Bus l k = fr-says k
-      by Time l k = tk-says k
+      by Declaration l k = declaring_says k
+      by Measurement l k = sa_says k
+      by Bus l k = fr_says k
+      by Time l k = tk_says k
 
       go : (a : Bool) → ltb (length rest) 2 ≡ a → Says (cond a (Refused Cut) (asked_by (mark_of (word rest 0)) rest m))
       go true e = inl (ltb-true (length rest) 2 e)

@@ -75,10 +75,10 @@ tells_cond {c} {a} {b} {P} {A} {B} s t u = go c s
     not_a s e (inl x) = t.no e x.1
     not_a s e (inr x) = x.0 (s.yes refl)
 
-    not-b : (Tells false P) → b ≡ false → (P × A) ⊎ ((P → ⊥) × B) → ⊥
-    not-b s e (inl x) = s.no refl x.0
-    not-b s e (inr x) = u.no e x.1
+    not_b : (Tells false P) → b ≡ false → (P × A) ⊎ ((P → ⊥) × B) → ⊥
+    not_b s e (inl x) = s.no refl x.0
+    not_b s e (inr x) = u.no e x.1
 
     go : (c : Bool) → Tells c P → Tells (cond c a b) ((P × A) ⊎ ((P → ⊥) × B))
     go true s = record { yes = λ e. inl (s.yes refl, t.yes e); no = λ e x. not_a s e x }
-    go false s = record { yes = λ e. inr (λ p. s.no refl p, u.yes e); no = λ e x. not-b s e x }
+    go false s = record { yes = λ e. inr (λ p. s.no refl p, u.yes e); no = λ e x. not_b s e x }

@@ -37,8 +37,8 @@ pub record Asks (zs : List ℕ) (m : Model) (size : ℕ) (hs : List Happening) :
 
 module _ (zs : List ℕ) (m : Model) (bytes : AllBytes zs) (none : NoneGiven zs m) where
   -- a declaration names a sensor
-  sensor-there : Declaring zs → (sensor : Sensor) × Names zs sensor
-  sensor-there k = go (either zs k) (dec_lt (length zs) (mark_size Declaration))
+  sensor_there : Declaring zs → (sensor : Sensor) × Names zs sensor
+  sensor_there k = go (either zs k) (dec_lt (length zs) (mark_size Declaration))
     where
       go : Either zs → Dec (length zs < mark_size Declaration) → (sensor : Sensor) × Names zs sensor
       go (inl there) cut = there
@@ -52,7 +52,7 @@ module _ (zs : List ℕ) (m : Model) (bytes : AllBytes zs) (none : NoneGiven zs 
     where
       by : 2 ≤ length zs → (k : Mark) → MarkIs k zs → (size : ℕ) × (hs : List Happening) × Front zs size hs
       by l Unknown (a, o, v, b, c, d) = absurd (none UnknownMark (l, a, o, v, b, c, d))
-      by l Declaration k = (_, _, declares (sensor-there k).0 (sensor-there k).1)
+      by l Declaration k = (_, _, declares (sensor_there k).0 (sensor_there k).1)
       by l Measurement k = (_, _, holds k)
       by l Bus k = (_, _, frames k)
       by l Time k = (_, _, passes k)
@@ -65,54 +65,54 @@ module _ (zs : List ℕ) (m : Model) (bytes : AllBytes zs) (none : NoneGiven zs 
   never : (why : Refusal) → asked zs m ≡ Refused why → ⊥
   never why e = none why ((number_exactly zs m bytes why).0 e)
 
-  declare-asked : (a b c : Bool)
+  declare_asked_lem : (a b c : Bool)
       → asked zs m ≡ cond a (Refused Cut) (cond b (Refused LateOrSkipped) (cond c (sensor_asked (declared_in zs)) (Refused NoSuchSensor)))
       → asked zs m ≡ sensor_asked (declared_in zs)
-  declare-asked true b c e = absurd (never Cut e)
-  declare-asked false true c e = absurd (never LateOrSkipped e)
-  declare-asked false false true e = e
-  declare-asked false false false e = absurd (never NoSuchSensor e)
+  declare_asked_lem true b c e = absurd (never Cut e)
+  declare_asked_lem false true c e = absurd (never LateOrSkipped e)
+  declare_asked_lem false false true e = e
+  declare_asked_lem false false false e = absurd (never NoSuchSensor e)
 
-  hold-asked : (a b c d : Bool)
+  hold_asked : (a b c d : Bool)
       → asked zs m
       ≡ cond a (Refused Cut) (cond b (cond c (cond d (Refused NotReadyAgain) (Hold (byte zs 2) (sample_in zs))) (Refused BadSample)) (Refused Undeclared))
       → asked zs m ≡ Hold (byte zs 2) (sample_in zs)
-  hold-asked true b c d e = absurd (never Cut e)
-  hold-asked false false c d e = absurd (never Undeclared e)
-  hold-asked false true false d e = absurd (never BadSample e)
-  hold-asked false true true true e = absurd (never NotReadyAgain e)
-  hold-asked false true true false e = e
+  hold_asked true b c d e = absurd (never Cut e)
+  hold_asked false false c d e = absurd (never Undeclared e)
+  hold_asked false true false d e = absurd (never BadSample e)
+  hold_asked false true true true e = absurd (never NotReadyAgain e)
+  hold_asked false true true false e = e
 
-  frame-asked : (a : Bool) → asked zs m ≡ cond a (Refused Cut) (Frame (byte zs 2) (byte zs 3) (byte zs 4))
+  frame_asked_lem : (a : Bool) → asked zs m ≡ cond a (Refused Cut) (Frame (byte zs 2) (byte zs 3) (byte zs 4))
       → asked zs m ≡ Frame (byte zs 2) (byte zs 3) (byte zs 4)
-  frame-asked true e = absurd (never Cut e)
-  frame-asked false e = e
+  frame_asked_lem true e = absurd (never Cut e)
+  frame_asked_lem false e = e
 
-  ticks-asked : (a b c d : Bool)
+  ticks_asked_lem : (a b c d : Bool)
       → asked zs m ≡ cond a (Refused Cut) (cond b (Refused NoTicks) (cond c (Refused TimeOver) (cond d (Refused BeyondTable) (Ticks (word zs 2)))))
       → asked zs m ≡ Ticks (word zs 2)
-  ticks-asked true b c d e = absurd (never Cut e)
-  ticks-asked false true c d e = absurd (never NoTicks e)
-  ticks-asked false false true d e = absurd (never TimeOver e)
-  ticks-asked false false false true e = absurd (never BeyondTable e)
-  ticks-asked false false false false e = e
+  ticks_asked_lem true b c d e = absurd (never Cut e)
+  ticks_asked_lem false true c d e = absurd (never NoTicks e)
+  ticks_asked_lem false false true d e = absurd (never TimeOver e)
+  ticks_asked_lem false false false true e = absurd (never BeyondTable e)
+  ticks_asked_lem false false false false e = e
 
-  asks-for : (a : Asked) → 0 < size_of a → asked zs m ≡ a → Asks zs m (size_of a) (asks_for a)
-  asks-for a s e = record { some = rw e s; whole = ap size_of e; tells = ap asks_for e }
+  asks_for_lem : (a : Asked) → 0 < size_of a → asked zs m ≡ a → Asks zs m (size_of a) (asks_for a)
+  asks_for_lem a s e = record { some = rw e s; whole = ap size_of e; tells = ap asks_for e }
 
   pub asks : {size : ℕ} {hs : List Happening} → Front zs size hs → Asks zs m size hs
   unfolding declare_asked sample_asked frame_asked ticks_asked size_of
   asks (declares sensor names) =
-      asks-for (Declare sensor) (omega arith)
-      (declare-asked (ltb (length zs) (mark_size Declaration)) (m.running || not (eqb (byte zs 2) m.declared))
+      asks_for_lem (Declare sensor) (omega arith)
+      (declare_asked_lem (ltb (length zs) (mark_size Declaration)) (m.running || not (eqb (byte zs 2) m.declared))
       (ltb (byte zs 2) 16) (declaring_asked zs m (named_by zs sensor names))
       ∙ ap sensor_asked (named zs sensor names))
   asks (holds k) =
-      asks-for (Hold (byte zs 2) (sample_in zs)) (omega arith)
-      (hold-asked (ltb (length zs) (mark_size Measurement)) (known m (byte zs 2)) (allowed m (byte zs 2) (sample_in zs))
+      asks_for_lem (Hold (byte zs 2) (sample_in zs)) (omega arith)
+      (hold_asked (ltb (length zs) (mark_size Measurement)) (known m (byte zs 2)) (allowed m (byte zs 2) (sample_in zs))
       (goes_back (instance_at m (byte zs 2)) (sample_in zs)) (sa_asked zs m k))
-  asks (frames k) = asks-for (Frame (byte zs 2) (byte zs 3) (byte zs 4)) (omega arith) (frame-asked (ltb (length zs) (mark_size Bus)) (fr_asked zs m k))
+  asks (frames k) = asks_for_lem (Frame (byte zs 2) (byte zs 3) (byte zs 4)) (omega arith) (frame_asked_lem (ltb (length zs) (mark_size Bus)) (fr_asked zs m k))
   asks (passes k) =
-      asks-for (Ticks (word zs 2)) (omega arith)
-      (ticks-asked (ltb (length zs) (mark_size Time)) (eqb (word zs 2) 0) (ltb (4294967295 - m.tick) (word zs 2))
+      asks_for_lem (Ticks (word zs 2)) (omega arith)
+      (ticks_asked_lem (ltb (length zs) (mark_size Time)) (eqb (word zs 2) 0) (ltb (4294967295 - m.tick) (word zs 2))
       (ltb m.last (m.tick + word zs 2)) (tk_asked zs m k))

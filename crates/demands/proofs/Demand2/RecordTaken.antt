@@ -71,8 +71,8 @@ asked_done m zs room some fit =
 module _ (m : Model) (ys zs : List ℕ) (room : ℕ) (whole : (session m ys room).number ≡ 0) (bytes : AllBytes zs) (none : NoneGiven zs (session m ys room).model)
     (size : ℕ) (hs : List Happening) (f : Front zs size hs)
     (fit : length (bytes_of (log_after (session m ys room).model hs)) ≤ room_after room (session m ys room)) where
-  record-done : session (session m ys room).model (take size zs) (room_after room (session m ys room)) ≡ done (session m ys room).model size hs
-  record-done =
+  record_done : session (session m ys room).model (take size zs) (room_after room (session m ys room)) ≡ done (session m ys room).model size hs
+  record_done =
       let a = asks zs (session m ys room).model bytes none f in
       rw (← a.whole, ← a.tells) (asked_done (session m ys room).model zs (room_after room (session m ys room)) a.some (rw a.tells fit))
 
@@ -84,4 +84,4 @@ module _ (m : Model) (ys zs : List ℕ) (room : ℕ) (whole : (session m ys room
         ticks = 0;
         log = (session m ys room).log ++ log_after (session m ys room).model hs;
       }
-  taken_behind = pieces m ys (take size zs) room whole ∙ ap (behind (length ys) (session m ys room).log) record-done
+  taken_behind = pieces m ys (take size zs) room whole ∙ ap (behind (length ys) (session m ys room).log) record_done

@@ -33,24 +33,24 @@ module _ (i : ℕ) (m : Model) (event : 0 < length (events_of i (tick_log m))) w
   there : Present i m
   there = event_present i m event
 
-  sent-here : is_event (ticked (instance_at m i)).sent ≡ true
-  sent-here = was_noted _ (m.tick + 1) (rw (← (events_tick there)) event)
+  sent_here : is_event (ticked (instance_at m i)).sent ≡ true
+  sent_here = was_noted _ (m.tick + 1) (rw (← (events_tick there)) event)
 
   -- and no other
   pub logged_here : events_of i (tick_log m) ≡ (m.tick + 1) ∷ []
-  logged_here = events_tick there ∙ rw sent-here
+  logged_here = events_tick there ∙ rw sent_here
 
   -- it is enabled, and its timers are as the event starts them
   pub enabled_after : (instance_at (tick_model m) i).settings.enabled ≡ true
   enabled_after =
       ap (λ x. x.settings.enabled) (ticked_own there)
       ∙ ap (λ s. s.enabled) (settings_kept (instance_at m i))
-      ∙ only_enabled (instance_at m i) sent-here
+      ∙ only_enabled (instance_at m i) sent_here
 
   pub started_after : (instance_at (tick_model m) i).timers ≡ started (rules_of (instance_at (tick_model m) i))
   started_after =
       ap (λ x. x.timers) (ticked_own there)
-      ∙ sent_starts (instance_at m i) sent-here
+      ∙ sent_starts (instance_at m i) sent_here
       ∙ ap started (sym (ap rules_of (ticked_own there) ∙ rules_kept (instance_at m i)))
 
   -- and what happens from then on keeps what the timers keep
@@ -58,18 +58,18 @@ module _ (i : ℕ) (m : Model) (event : 0 < length (events_of i (tick_log m))) w
   After P = (hs : List Happening) → Undisturbed i (tick_model m) hs
       → P (D (instance_at (tick_model m) i)) (R (instance_at (tick_model m) i)) (tick_model m).tick (ticks_in hs) (events_of i (log_after (tick_model m) hs))
 
-  run-as : (P : (D R last n : ℕ) → List ℕ → Type 0)
+  run_as : (P : (D R last n : ℕ) → List ℕ → Type 0)
       → ((r : Rules) → Reporting r → (cs : List Bool) (last : ℕ) → P (dead_time r) (report_time r) last (length cs) (sendings r (started r) last cs))
       → Reports (instance_at (tick_model m) i) → After P
-  run-as P law r hs u =
+  run_as P law r hs u =
       let x = instance_at (tick_model m) i in
       let s = seen i (tick_model m) (happen_present m tick there) hs u in
       rw (s.events, ← s.each_tick, started_after)
       (law (rules_of x) (reporting x.kind x.settings enabled_after r.lets r.set) s.causes (tick_model m).tick)
 
   pub paced_run : Reports (instance_at (tick_model m) i) → After Paced
-  paced_run = run-as Paced timers_paced
+  paced_run = run_as Paced timers_paced
 
   -- events so far apart
   pub spaced_run : Reports (instance_at (tick_model m) i) → After (λ D R last n events. Spaced (max D 1) R last events (last + n))
-  spaced_run = run-as (λ D R last n events. Spaced (max D 1) R last events (last + n)) timers_spaced
+  spaced_run = run_as (λ D R last n events. Spaced (max D 1) R last events (last + n)) timers_spaced

@@ -6,7 +6,7 @@ use Rattle.demands.proofs.Demand3.WindowEvents.{window_events}
 use Rattle.demands.proofs.Shared.OneInstance.{run_length}
 use Rattle.demands.specs.Alone.{Present}
 use Rattle.demands.specs.Happenings.{Call, Happening, log_after, ticks_in}
-use Rattle.demands.specs.Window.{R, Start, Undisturbed, deviceAfter, deviceBefore, events, events_of, last, n, rules_of}
+use Rattle.demands.specs.Window.{R, Start, Undisturbed, device_after, device_before, events, events_of, last, n, rules_of}
 use Rattle.device.proofs.Laws.{declared_next, declared_here, declared_length}
 use Rattle.device.specs.Device.{instance_at}
 use Rattle.device.specs.declared.model.Model.{Model}
@@ -43,36 +43,36 @@ first_run i m k p on lets e d hs u h =
 
 -- ---- of an instance just declared
 module _ {m₀ : Model} {calls : List Call} {i : ℕ} {sensor : Sensor} (s : Start m₀ calls i sensor) where
-  room : (deviceBefore s.at).declared < 16
+  room : (device_before s.at).declared < 16
   room = omega (arith, s.next, s.there)
 
-  sixteen : length (deviceBefore s.at).instances ≡ 16
+  sixteen : length (device_before s.at).instances ≡ 16
   sixteen = run_length m₀ s.at.before ∙ s.sixteen
 
-  present : Present i (deviceAfter s.at)
+  present : Present i (device_after s.at)
   present =
       record {
-        declared = omega (arith, s.next, declared_next (deviceBefore s.at) sensor room);
-        listed = omega (arith, s.there, sixteen, declared_length (deviceBefore s.at) sensor);
+        declared = omega (arith, s.next, declared_next (device_before s.at) sensor room);
+        listed = omega (arith, s.there, sixteen, declared_length (device_before s.at) sensor);
       }
 
-  here : instance_at (deviceAfter s.at) i ≡ sensors.declared sensor
-  here = ap (instance_at (deviceAfter s.at)) s.next ∙ declared_here (deviceBefore s.at) sensor sixteen room
+  here : instance_at (device_after s.at) i ≡ sensors.declared sensor
+  here = ap (instance_at (device_after s.at)) s.next ∙ declared_here (device_before s.at) sensor sixteen room
 
-  new : Fresh (instance_at (deviceAfter s.at) i)
+  new : Fresh (instance_at (device_after s.at) i)
   new = rw here (fresh sensor)
 
-  timed : (instance_at (deviceAfter s.at) i).timers.report ≡ Left (R (instance_at (deviceAfter s.at) i))
+  timed : (instance_at (device_after s.at) i).timers.report ≡ Left (R (instance_at (device_after s.at) i))
   unfolding started_report rules
-  timed = new.report ∙ rw (ne_eqb (instance_at (deviceAfter s.at) i).settings.report 0 (λ e. omega (arith, s.reports.set)))
+  timed = new.report ∙ rw (ne_eqb (instance_at (device_after s.at) i).settings.report 0 (λ e. omega (arith, s.reports.set)))
 
-  positive : 0 < R (instance_at (deviceAfter s.at) i)
-  positive = report_positive (instance_at (deviceAfter s.at) i).kind (instance_at (deviceAfter s.at) i).settings s.reports.set
+  positive : 0 < R (instance_at (device_after s.at) i)
+  positive = report_positive (instance_at (device_after s.at) i).kind (instance_at (device_after s.at) i).settings s.reports.set
 
-  pub declared_soon : R (instance_at (deviceAfter s.at) i) ≤ n s.at
-      → (e : ℕ) × Memᴰ e (events s.at i) × (last s.at < e) × (e ≤ last s.at + R (instance_at (deviceAfter s.at) i))
+  pub declared_soon : R (instance_at (device_after s.at) i) ≤ n s.at
+      → (e : ℕ) × Memᴰ e (events s.at i) × (last s.at < e) × (e ≤ last s.at + R (instance_at (device_after s.at) i))
   declared_soon h =
       let (e, mem, low, high) =
-      first_run i (deviceAfter s.at) (R (instance_at (deviceAfter s.at) i)) present new.on s.reports.lets timed (omega (arith, new.dead))
+      first_run i (device_after s.at) (R (instance_at (device_after s.at) i)) present new.on s.reports.lets timed (omega (arith, new.dead))
       s.at.during s.undisturbed (omega (arith, positive)) in
       rw (window_events s.at i) (e, mem, low, omega (arith, positive))

@@ -6,7 +6,7 @@ use Rattle.demands.proofs.Shared.FullSession.{computing, full}
 use Rattle.demands.proofs.Shared.OneInstance.{happen_present, ticked_own}
 use Rattle.demands.specs.Alone.{Present}
 use Rattle.demands.specs.Happenings.{Call, Happening, bytes_written, carried, carried_in, carried_out, declare, frame, happen, hold, log_after, model_after, tick, ticks_in}
-use Rattle.demands.specs.Window.{Cut, D, R, Undisturbed, Window, deviceAfter, events, events_of, n}
+use Rattle.demands.specs.Window.{Cut, D, R, Undisturbed, Window, device_after, events, events_of, n}
 use Rattle.device.specs.Device.{fresh, instance_at}
 use Rattle.device.specs.declared.model.Model.{Model}
 use Rattle.sensor.proofs.Laws.{held_kept}
@@ -45,12 +45,12 @@ window =
       at = first_event;
       event = omega arith;
       reports = record { set = omega arith; lets = refl };
-      undisturbed = (tt, still_valid 40 0 (happen (deviceAfter first_event) (measured 94)) (record { declared = omega arith; listed = omega arith }) refl);
+      undisturbed = (tt, still_valid 40 0 (happen (device_after first_event) (measured 94)) (record { declared = omega arith; listed = omega arith }) refl);
     }
 
 -- instance 0 just after its first event
 abbrev x : Instance
-x = instance_at (deviceAfter window.at) 0
+x = instance_at (device_after window.at) 0
 
 -- its only event of the window is that of tick 31
 event_31 : events window.at 0 ≡ (31 ∷ [])

@@ -7,7 +7,7 @@ use Rattle.demands.proofs.Shared.EventsInLog.{events_append}
 use Rattle.demands.proofs.Shared.OneInstance.{happen_tick, run_ticks}
 use Rattle.demands.proofs.Shared.Runs.{calls_log}
 use Rattle.demands.specs.Happenings.{Call, bytes_written, log_after, model_after, tick}
-use Rattle.demands.specs.Window.{D, R, Window, between, deviceAfter, deviceBefore, events, events_of, last, n}
+use Rattle.demands.specs.Window.{D, R, Window, between, device_after, device_before, events, events_of, last, n}
 use Rattle.device.specs.Device.{instance_at}
 use Rattle.device.specs.declared.model.Model.{Model}
 use Rattle.hours.proofs.Spacing.{Earlier, Later, gap_early, gap_most, hour_least, hour_most}
@@ -51,7 +51,7 @@ all_later bound (more l u rest) h = (omega arith, all_later bound rest h)
 
 module _ {m₀ : Model} {calls : List Call} {i : ℕ} (w : Window m₀ calls i) where
   abbrev x : Instance
-  x = instance_at (deviceAfter w.at) i
+  x = instance_at (device_after w.at) i
 
   abbrev log : List Logged
   log = decoded (bytes_written m₀ calls)
@@ -75,13 +75,13 @@ module _ {m₀ : Model} {calls : List Call} {i : ℕ} (w : Window m₀ calls i) 
     earlier = events_of i (log_after m₀ w.at.before)
 
     abbrev later : List ℕ
-    later = events_of i (log_after (model_after (deviceAfter w.at) w.at.during) w.at.later)
+    later = events_of i (log_after (model_after (device_after w.at) w.at.during) w.at.later)
 
-    all-events : events_of i log ≡ earlier ++ (last w.at ∷ (events w.at i ++ later))
-    all-events =
-        let b = deviceBefore w.at in
-        let during = log_after (deviceAfter w.at) w.at.during in
-        let behind = log_after (model_after (deviceAfter w.at) w.at.during) w.at.later in
+    all_events : events_of i log ≡ earlier ++ (last w.at ∷ (events w.at i ++ later))
+    all_events =
+        let b = device_before w.at in
+        let during = log_after (device_after w.at) w.at.during in
+        let behind = log_after (model_after (device_after w.at) w.at.during) w.at.later in
         ap (events_of i) (calls_log m₀ calls ∙ log_cut w.at i)
         ∙ events_append i (log_after m₀ w.at.before) (tick_log b ++ (during ++ behind))
         ∙ ap (λ l. earlier ++ l)
@@ -92,10 +92,10 @@ module _ {m₀ : Model} {calls : List Call} {i : ℕ} (w : Window m₀ calls i) 
     pub hour_gap : gap_in i k log ≤ R x
     unfolding gap_in
     hour_gap =
-        let b = happen_tick (deviceBefore w.at) tick in
+        let b = happen_tick (device_before w.at) tick in
         let t = run_ticks m₀ w.at.before in
-        let u = run_ticks (deviceAfter w.at) w.at.during in
+        let u = run_ticks (device_after w.at) w.at.during in
         let early = all_earlier (before k) (run_within i m₀ w.at.before) (omega arith) in
-        let late = all_later (before (suc k)) (run_within i (model_after (deviceAfter w.at) w.at.during) w.at.later) (omega arith) in
-        rw (all-events, gap_early k 0 (last w.at) earlier (events w.at i ++ later) early starts)
+        let late = all_later (before (suc k)) (run_within i (model_after (device_after w.at) w.at.during) w.at.later) (omega arith) in
+        rw (all_events, gap_early k 0 (last w.at) earlier (events w.at i ++ later) early starts)
         (gap_most (max (D x) 1) (R x) (last w.at) (last w.at + n w.at) k (events w.at i) later apart late)

@@ -130,15 +130,15 @@ after_tick i n m p v log s =
     noted_here : events_of i (tick_log m) ≡ noted (sends decision) (suc m.tick)
     noted_here = events_tick p ∙ ap₂ noted (sent_decided x ∙ ap sends decides) (add-one m.tick)
 
-    rules-here : rules_of x' ≡ rules_of x
-    rules-here = ap rules_of (ticked_own p) ∙ rules_kept x
+    rules_here : rules_of x' ≡ rules_of x
+    rules_here = ap rules_of (ticked_own p) ∙ rules_kept x
 
-    timers-here : x'.timers ≡ after decision (rules_of x) (fallen x.timers)
-    timers-here = ap (λ y. y.timers) (ticked_own p) ∙ ticked_timers x ∙ ap (λ g. after g (rules_of x) (fallen x.timers)) decides
+    timers_here : x'.timers ≡ after decision (rules_of x) (fallen x.timers)
+    timers_here = ap (λ y. y.timers) (ticked_own p) ∙ ticked_timers x ∙ ap (λ g. after g (rules_of x) (fallen x.timers)) decides
 
     later : sendings (rules_of x') x'.timers (m.tick + 1) s.causes
         ≡ sendings (rules_of x) (after decision (rules_of x) (fallen x.timers)) (suc m.tick) s.causes
-    later = rw (rules-here, timers-here, add-one m.tick)
+    later = rw (rules_here, timers_here, add-one m.tick)
 
 -- EVERY RUN that leaves instance i undisturbed
 pub seen : (i : ℕ) (m : Model) → Present i m → (hs : List Happening) → Undisturbed i m hs

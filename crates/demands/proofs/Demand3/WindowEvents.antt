@@ -7,7 +7,7 @@ use Rattle.demands.proofs.Shared.OneInstance.{happen_tick, run_ticks, ticks_cons
 use Rattle.demands.proofs.Shared.Runs.{calls_log, log_append}
 use Rattle.demands.specs.Alone.{rises}
 use Rattle.demands.specs.Happenings.{Call, Happening, carried_out, declare, frame, happen, hold, log_after, logs, model_after, tick, ticks_in}
-use Rattle.demands.specs.Window.{Cut, between, deviceAfter, deviceBefore, events, events_of, last, n}
+use Rattle.demands.specs.Window.{Cut, between, device_after, device_before, events, events_of, last, n}
 use Rattle.device.specs.declared.model.Model.{Model}
 use Rattle.sensor.specs.Tick.{ticked}
 use Rattle.sensor.specs.declared.instance.Instance.{Instance}
@@ -94,35 +94,35 @@ run_within i m (h ∷ hs) =
 module _ {m₀ : Model} {calls : List Call} {h : Happening} (c : Cut m₀ calls h) (i : ℕ) where
   pub log_cut : log_after m₀ (carried_out m₀ calls)
       ≡ log_after m₀ c.before
-      ++ (logs (deviceBefore c) h ++ (log_after (deviceAfter c) c.during ++ log_after (model_after (deviceAfter c) c.during) c.later))
+      ++ (logs (device_before c) h ++ (log_after (device_after c) c.during ++ log_after (model_after (device_after c) c.during) c.later))
   unfolding log_after
   log_cut =
       ap (log_after m₀) c.cut
       ∙ log_append m₀ c.before (h ∷ (c.during ++ c.later))
-      ∙ ap (λ l. log_after m₀ c.before ++ (logs (deviceBefore c) h ++ l)) (log_append (deviceAfter c) c.during c.later)
+      ∙ ap (λ l. log_after m₀ c.before ++ (logs (device_before c) h ++ l)) (log_append (device_after c) c.during c.later)
 
-  pub window_events : events c i ≡ events_of i (log_after (deviceAfter c) c.during)
+  pub window_events : events c i ≡ events_of i (log_after (device_after c) c.during)
   window_events =
       ap (λ l. between (last c) (last c + n c) (events_of i l)) (calls_log m₀ calls ∙ log_cut)
       ∙ rw (events_append, events_append, events_append, between_append, between_append, between_append, early, at_once, within, late, append-nil)
     where
-      rise : last c ≡ (deviceBefore c).tick + rises h
-      rise = happen_tick (deviceBefore c) h
+      rise : last c ≡ (device_before c).tick + rises h
+      rise = happen_tick (device_before c) h
 
       early : between (last c) (last c + n c) (events_of i (log_after m₀ c.before)) ≡ []
       early =
           between_early {least = m₀.tick} (last c + n c)
           (within_wider (omega arith) (omega (arith, rise, run_ticks m₀ c.before)) (run_within i m₀ c.before))
 
-      at_once : between (last c) (last c + n c) (events_of i (logs (deviceBefore c) h)) ≡ []
+      at_once : between (last c) (last c + n c) (events_of i (logs (device_before c) h)) ≡ []
       at_once =
-          between_early {least = (deviceBefore c).tick} (last c + n c)
-          (within_wider (omega arith) (omega (arith, rise)) (logs_within i (deviceBefore c) h))
+          between_early {least = (device_before c).tick} (last c + n c)
+          (within_wider (omega arith) (omega (arith, rise)) (logs_within i (device_before c) h))
 
-      within : between (last c) (last c + n c) (events_of i (log_after (deviceAfter c) c.during)) ≡ events_of i (log_after (deviceAfter c) c.during)
-      within = between_all (run_within i (deviceAfter c) c.during)
+      within : between (last c) (last c + n c) (events_of i (log_after (device_after c) c.during)) ≡ events_of i (log_after (device_after c) c.during)
+      within = between_all (run_within i (device_after c) c.during)
 
-      late : between (last c) (last c + n c) (events_of i (log_after (model_after (deviceAfter c) c.during) c.later)) ≡ []
+      late : between (last c) (last c + n c) (events_of i (log_after (model_after (device_after c) c.during) c.later)) ≡ []
       late =
-          between_late {most = (model_after (deviceAfter c) c.during).tick + ticks_in c.later} (last c)
-          (within_wider (omega (arith, run_ticks (deviceAfter c) c.during)) (omega arith) (run_within i (model_after (deviceAfter c) c.during) c.later))
+          between_late {most = (model_after (device_after c) c.during).tick + ticks_in c.later} (last c)
+          (within_wider (omega (arith, run_ticks (device_after c) c.during)) (omega arith) (run_within i (model_after (device_after c) c.during) c.later))

@@ -22,10 +22,10 @@ Then room xs ys r = behind (length xs) r.log (session r.model ys (room_after roo
 
 -- behind the first record of xs
 module _ (m : Model) (xs ys : List ℕ) (room : ℕ) (log : List Logged) where
-  then-behind : (r : End)
+  then_behind : (r : End)
       → behind (size_of (asked xs m)) log (Then (room - length (bytes_of log)) (drop (size_of (asked xs m)) xs) ys r)
       ≡ Then room xs ys (behind (size_of (asked xs m)) log r)
-  then-behind r =
+  then_behind r =
       behind_behind (size_of (asked xs m)) (length (drop (size_of (asked xs m)) xs)) log r.log _
       ∙ ap₂ (λ n k. behind n (log ++ r.log) (session r.model ys k)) long (room_behind room log r.log)
     where
@@ -37,6 +37,6 @@ pub in_turn : (m : Model) (xs ys : List ℕ) (room : ℕ) → (session m xs room
 in_turn m xs ys room whole =
     by_records (λ m xs room r. r.number ≡ 0 → session m (xs ++ ys) room ≡ Then room xs ys r)
     (λ m room z. ap (session m ys) (sym (nothing_left room)) ∙ sym (behind_nothing (session m ys (room - length (bytes_of [])))))
-    (λ m xs room m' log some e r ih z. first_extended m xs ys room some e ∙ ap (behind (size_of (asked xs m)) log) (ih z) ∙ then-behind m xs ys room log r)
+    (λ m xs room m' log some e r ih z. first_extended m xs ys room some e ∙ ap (behind (size_of (asked xs m)) log) (ih z) ∙ then_behind m xs ys room log r)
     (λ m xs room why t m' log some e z. absurd (omega (arith, refused_some why)))
     m xs room whole

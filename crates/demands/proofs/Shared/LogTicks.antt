@@ -64,20 +64,20 @@ most m = max 16 (length m.instances)
 
 -- ---- FR: an answer at the tick that is
 module _ (m : Model) where
-  answer-lies : (i : ℕ) (a : Answer) → i < 16 → Rises m.tick (answer_log m.tick i a) × Every (Lies m.tick m.tick (most m)) (answer_log m.tick i a)
+  answer_lies : (i : ℕ) (a : Answer) → i < 16 → Rises m.tick (answer_log m.tick i a) × Every (Lies m.tick m.tick (most m)) (answer_log m.tick i a)
   unfolding answer_log
-  answer-lies i None h = (tt, tt)
-  answer-lies i (Byte b) h = ((omega arith, tt), (record { above = tt; up_to = omega arith; below = omega arith }, tt))
+  answer_lies i None h = (tt, tt)
+  answer_lies i (Byte b) h = ((omega arith, tt), (record { above = tt; up_to = omega arith; below = omega arith }, tt))
 
-  frame-lies : (first second third : ℕ)
+  frame_lies : (first second third : ℕ)
       → Rises m.tick (frame_log m first second third) × Every (Lies m.tick m.tick (most m)) (frame_log m first second third)
   unfolding frame_log numbered_log
-  frame-lies first second third = go (loads first second) (counts m first second) refl
+  frame_lies first second third = go (loads first second) (counts m first second) refl
     where
       go : (l c : Bool) → counts m first second ≡ c
           → Rises m.tick (cond l [] (cond c (numbered_log m second third) [])) × Every (Lies m.tick m.tick (most m)) (cond l [] (cond c (numbered_log m second third) []))
       go true c e = (tt, tt)
-      go false true e = answer-lies second _ (known_below m second (counts_known m first second e)).1
+      go false true e = answer_lies second _ (known_below m second (counts_known m first second e)).1
       go false false e = (tt, tt)
 
 -- ---- a tick: its events bear its number
@@ -103,19 +103,19 @@ sweep_lies now j most (x ∷ xs) h =
 
 -- ---- any happening, and a run of them
 module _ (m : Model) where
-  logs-rise : (h : Happening) → Rises m.tick (logs m h)
+  logs_rise : (h : Happening) → Rises m.tick (logs m h)
   unfolding tick_log
-  logs-rise (declare sensor) = tt
-  logs-rise (hold i sample) = tt
-  logs-rise (frame first second third) = (frame-lies m first second third).0
-  logs-rise tick = sweep_rises (m.tick + 1) 0 (take m.declared m.instances) (omega arith)
+  logs_rise (declare sensor) = tt
+  logs_rise (hold i sample) = tt
+  logs_rise (frame first second third) = (frame_lies m first second third).0
+  logs_rise tick = sweep_rises (m.tick + 1) 0 (take m.declared m.instances) (omega arith)
 
-  logs-lie : (h : Happening) → Every (Lies m.tick (m.tick + rises h) (most m)) (logs m h)
+  logs_lie : (h : Happening) → Every (Lies m.tick (m.tick + rises h) (most m)) (logs m h)
   unfolding tick_log
-  logs-lie (declare sensor) = tt
-  logs-lie (hold i sample) = tt
-  logs-lie (frame first second third) = every_as (wider (omega arith) (omega arith) (omega arith)) (frame_log m first second third) (frame-lies m first second third).1
-  logs-lie tick = sweep_lies m.tick 0 (most m) (take m.declared m.instances) (rw length-take (omega arith))
+  logs_lie (declare sensor) = tt
+  logs_lie (hold i sample) = tt
+  logs_lie (frame first second third) = every_as (wider (omega arith) (omega arith) (omega arith)) (frame_log m first second third) (frame_lies m first second third).1
+  logs_lie tick = sweep_lies m.tick 0 (most m) (take m.declared m.instances) (rw length-take (omega arith))
 
 pub run_onward : (m : Model) (hs : List Happening) → m.tick ≤ (model_after m hs).tick
 unfolding model_after
@@ -129,7 +129,7 @@ run_lies m (h ∷ hs) =
     let e = happen_tick m h in
     let l = happen_length m h in
     let up = run_onward (happen m h) hs in
-    every_append (Lies m.tick (model_after (happen m h) hs).tick (most m)) (logs m h) (log_after (happen m h) hs) (every_as (wider (omega arith) (omega arith) (omega arith)) (logs m h) (logs-lie m h))
+    every_append (Lies m.tick (model_after (happen m h) hs).tick (most m)) (logs m h) (log_after (happen m h) hs) (every_as (wider (omega arith) (omega arith) (omega arith)) (logs m h) (logs_lie m h))
     (every_as (wider (omega arith) (omega arith) (omega arith)) (log_after (happen m h) hs) (run_lies (happen m h) hs))
 
 -- no tick is above the last, every event is later than the start, and no record is of a seventeenth instance
@@ -149,8 +149,8 @@ unfolding log_after
 run_rises m [] = tt
 run_rises m (h ∷ hs) =
     let e = happen_tick m h in
-    rises_append (logs m h) (log_after (happen m h) hs) (omega arith) (logs-rise m h)
-    (every_as (λ r p. let u = p.up_to in omega arith) (logs m h) (logs-lie m h)) (run_rises (happen m h) hs)
+    rises_append (logs m h) (log_after (happen m h) hs) (omega arith) (logs_rise m h)
+    (every_as (λ r p. let u = p.up_to in omega arith) (logs m h) (logs_lie m h)) (run_rises (happen m h) hs)
 
 -- ---- the events of one instance
 climbs_from : (low last : ℕ) (ts : List ℕ) → low ≤ last → Climbs last ts → Climbs low ts

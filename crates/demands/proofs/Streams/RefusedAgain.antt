@@ -33,16 +33,16 @@ pub record Still (m : Model) (xs : List ℕ) (number : ℕ) : Type 0 where
 
 -- a record that is refused, and not by 9
 module _ (m : Model) (rest : List ℕ) (why : Refusal) (some : 0 < length rest) (e : asked rest m ≡ Refused why) where
-  refused-again : (ys : List ℕ) → asked (rest ++ ys) m ≡ Refused why → (room : ℕ) → session m (rest ++ ys) room ≡ ended (number_of why) 0 0 m []
+  refused_again : (ys : List ℕ) → asked (rest ++ ys) m ≡ Refused why → (room : ℕ) → session m (rest ++ ys) room ≡ ended (number_of why) 0 0 m []
   unfolding step
-  refused-again ys f room = session_refused m (rest ++ ys) room (rw length-append (omega arith)) (ap (λ a. step a room m []) f)
+  refused_again ys f room = session_refused m (rest ++ ys) room (rw length-append (omega arith)) (ap (λ a. step a room m []) f)
 
-  still-refused : Still m rest (number_of why)
+  still_refused : Still m rest (number_of why)
   unfolding next_after number_of
-  still-refused =
+  still_refused =
       record {
-        alone = λ n room. ap (λ l. session m l room) (sym (append-nil rest)) ∙ refused-again [] (ap (λ l. asked l m) (append-nil rest) ∙ e) room;
-        final = λ o ys room. refused-again ys (refused_still rest m why (λ cut. not_after 2 (number_of why) o (λ z. omega arith) (ap number_of cut)) e ys) room;
+        alone = λ n room. ap (λ l. session m l room) (sym (append-nil rest)) ∙ refused_again [] (ap (λ l. asked l m) (append-nil rest) ∙ e) room;
+        final = λ o ys room. refused_again ys (refused_still rest m why (λ cut. not_after 2 (number_of why) o (λ z. omega arith) (ap number_of cut)) e ys) room;
       }
 
 -- all is read
@@ -62,9 +62,9 @@ module _ (m : Model) (xs : List ℕ) (room : ℕ) where
       by (yes h) = absurd (n (ticks_by_9 m xs room h))
       by (no h) = omega arith
 
-  unread-there : e.number ≢ 9 → unread e xs ≡ drop e.offset xs
+  unread_there : e.number ≢ 9 → unread e xs ≡ drop e.offset xs
   unfolding unread remaining
-  unread-there n = rw (no_ticks n)
+  unread_there n = rw (no_ticks n)
 
   -- what a reading leaves unread
   pub still : Still e.model (unread e xs) e.number
@@ -75,7 +75,7 @@ module _ (m : Model) (xs : List ℕ) (room : ℕ) where
       by h (yes nine) = record { alone = λ n. absurd (n nine); final = λ o. absurd (not_after 9 e.number o (λ z. omega arith) nine) }
       by (no h) (no k) =
           let zero : e.number ≡ 0 = omega arith in
-          rw (unread-there (λ n. omega arith), offset_whole m xs room zero, drop-length xs, zero) (still_none e.model)
+          rw (unread_there (λ n. omega arith), offset_whole m xs room zero, drop-length xs, zero) (still_none e.model)
       by (yes h) (no k) = go (refused_at_lem m xs room h)
         where
           rest : List ℕ
@@ -86,6 +86,6 @@ module _ (m : Model) (xs : List ℕ) (room : ℕ) where
             where
               at : ((asked rest l.model ≡ Refused l.why) × (e.model ≡ l.model)) ⊎ (l.why ≡ Full) → Still e.model (unread e xs) e.number
               at (inl (a, same)) =
-                  rw (unread-there (λ n. omega arith), l.numbered)
-                  (still-refused e.model rest l.why (rw length-drop (omega (arith, offset_refused m xs room h))) (ap (asked rest) same ∙ a))
+                  rw (unread_there (λ n. omega arith), l.numbered)
+                  (still_refused e.model rest l.why (rw length-drop (omega (arith, offset_refused m xs room h))) (ap (asked rest) same ∙ a))
               at (inr full) = absurd (k (l.numbered ∙ ap number_of full))

@@ -93,9 +93,9 @@ module _ (m : Model) (xs ys : List ℕ) (room big t : ℕ) (m' : Model) (log : L
       ∙ ticking_later (suc t) j 0 big m' log
       ∙ ap (later (suc t)) (ap (ticking j 0 big m') (sym (append-nil log)) ∙ step_behind big log (Ticks j) m' [])
 
-  rest-onward : untimed (session m (xs ++ ys) big) ≡ untimed (behind 0 log (session m' (remaining (suc t) xs ++ ys) (big - size log)))
+  rest_onward : untimed (session m (xs ++ ys) big) ≡ untimed (behind 0 log (session m' (remaining (suc t) xs ++ ys) (big - size log)))
   unfolding size_of
-  rest-onward =
+  rest_onward =
       ap untimed
       (session_from m (xs ++ ys) big (rw length-append (omega (arith, long)))
       ∙ ap (λ a. from (size_of a) (drop (size_of a) (xs ++ ys)) big (step a big m [])) whole
@@ -136,7 +136,7 @@ unfolding unread remaining
 onward_left m xs room why zero m' log k ys big h = let (p, q) = same_left k in rw (p, q) (ap untimed (unread_nothing m xs ys big))
 onward_left m xs room why (suc t) m' log k ys big h =
     let (fewer, stand, full) = part_left k in
-    rest-onward m xs ys room big t m' log fewer stand h
+    rest_onward m xs ys room big t m' log fewer stand h
 
 -- THE REST OF A SESSION, from where a reading left off: the same model, number, offset and log as in one call, whatever follows, with any
 -- room that holds what the reading wrote

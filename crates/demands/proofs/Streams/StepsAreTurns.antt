@@ -43,11 +43,11 @@ module _ (p : Progress) (n : ℕ) (filled output : List ℕ) where
   left = input_after p n filled output
 
   -- with what is held unread
-  step-turn : (xs : List ℕ) → held p n filled ≡ xs → (coming : List (List ℕ)) (offset : ℕ) (log : List Logged)
+  step_turn : (xs : List ℕ) → held p n filled ≡ xs → (coming : List (List ℕ)) (offset : ℕ) (log : List Logged)
       → turn (length output) (record { model = p.model; unread = xs; coming = coming; number = p.number; offset = offset; log = log })
       ≡ holding after left coming (offset + (ended p n filled output).offset) (log ++ (ended p n filled output).log)
   unfolding turned stepped progressed ended
-  step-turn xs holds coming offset log =
+  step_turn xs holds coming offset log =
       let e = ended p n filled output in
       rw (← holds) (λ i. record {
         model = e.model;
@@ -59,14 +59,14 @@ module _ (p : Progress) (n : ℕ) (filled output : List ℕ) where
       })
 
   -- its log lies at the front of the output
-  step-bytes : (log : List Logged)
+  step_bytes : (log : List Logged)
       → bytes_of (log ++ (ended p n filled output).log)
       ≡ bytes_of log ++ take (stepped p n filled output).written (output_after p n filled output)
-  step-bytes log = bytes_append log (ended p n filled output).log ∙ ap (λ l. bytes_of log ++ l) (sym (step_front p n filled output))
+  step_bytes log = bytes_append log (ended p n filled output).log ∙ ap (λ l. bytes_of log ++ l) (sym (step_front p n filled output))
 
-  step-passed : (offset : ℕ) → p.passed ≡ offset % 2 ^ 64 → after.passed ≡ (offset + (ended p n filled output).offset) % 2 ^ 64
+  step_passed : (offset : ℕ) → p.passed ≡ offset % 2 ^ 64 → after.passed ≡ (offset + (ended p n filled output).offset) % 2 ^ 64
   unfolding stepped progressed
-  step-passed offset e = ap (λ k. (k + (ended p n filled output).offset) % 2 ^ 64) e ∙ mod-add-mod offset (2 ^ 64) (ended p n filled output).offset
+  step_passed offset e = ap (λ k. (k + (ended p n filled output).offset) % 2 ^ 64) e ∙ mod-add-mod offset (2 ^ 64) (ended p n filled output).offset
 
 -- what is held: the unread bytes as they were, and the piece behind them
 held_piece : (u n : ℕ) (filled input : List ℕ) → take u filled ≡ take u input → take (u + n) filled ≡ take u input ++ slice u (u + n) filled
@@ -96,12 +96,12 @@ module _ {m₀ : Model} {p : Progress} {input came log : List ℕ} (t : Traced m
       (log ++ take (stepped p n filled output).written (output_after p n filled output))
 
   bytes_more : bytes_of (t.logged ++ (ended p n filled output).log) ≡ log ++ take (stepped p n filled output).written (output_after p n filled output)
-  bytes_more = step-bytes p n filled output t.logged ∙ ap (λ l. l ++ take (stepped p n filled output).written (output_after p n filled output)) t.bytes
+  bytes_more = step_bytes p n filled output t.logged ∙ ap (λ l. l ++ take (stepped p n filled output).written (output_after p n filled output)) t.bytes
 
   -- more input came
-  fed-more : next_after p.number ≡ MoreInput → Next-traced
+  fed_more : next_after p.number ≡ MoreInput → Next-traced
   unfolding turn_by
-  fed-more e =
+  fed_more e =
       record {
         pieces = t.pieces ++ (piece ∷ []);
         rooms = t.rooms ++ (length output ∷ []);
@@ -113,16 +113,16 @@ module _ {m₀ : Model} {p : Progress} {input came log : List ℕ} (t : Traced m
             ∙ streamed_more t.rooms (length output) (start m₀ (t.pieces ++ (piece ∷ more)))
             ∙ ap (next_turn (length output)) (t.runs (piece ∷ more))
             ∙ ap (λ k. turn_by k (piece ∷ more) (length output) (holding p input (piece ∷ more) t.offset t.logged)) e
-            ∙ step-turn p n filled output (take p.unread input ++ piece) (held_piece p.unread n filled input kept) more t.offset t.logged;
+            ∙ step_turn p n filled output (take p.unread input ++ piece) (held_piece p.unread n filled input kept) more t.offset t.logged;
         all = joined_more t.pieces piece ∙ ap (λ l. l ++ piece) t.all;
-        passed = step-passed p n filled output t.offset t.passed;
+        passed = step_passed p n filled output t.offset t.passed;
         bytes = bytes_more;
       }
 
   -- the output was emptied, and nothing came
-  emptied-more : next_after p.number ≡ EmptiedOutput → n ≡ 0 → Next-traced
+  emptied_more : next_after p.number ≡ EmptiedOutput → n ≡ 0 → Next-traced
   unfolding turn_by
-  emptied-more e none =
+  emptied_more e none =
       let at : p.unread + n ≡ p.unread = omega arith in
       let nothing : piece ≡ [] = ap (λ k. slice p.unread k filled) at ∙ slice_empty p.unread filled in
       record {
@@ -135,16 +135,16 @@ module _ {m₀ : Model} {p : Progress} {input came log : List ℕ} (t : Traced m
             streamed_more t.rooms (length output) (start m₀ (t.pieces ++ more))
             ∙ ap (next_turn (length output)) (t.runs more)
             ∙ ap (λ k. turn_by k more (length output) (holding p input more t.offset t.logged)) e
-            ∙ step-turn p n filled output (take p.unread input) (ap (λ k. take k filled) at ∙ kept) more t.offset t.logged;
+            ∙ step_turn p n filled output (take p.unread input) (ap (λ k. take k filled) at ∙ kept) more t.offset t.logged;
         all = t.all ∙ sym (append-nil came) ∙ ap (λ l. came ++ l) (sym nothing);
-        passed = step-passed p n filled output t.offset t.passed;
+        passed = step_passed p n filled output t.offset t.passed;
         bytes = bytes_more;
       }
 
-  traced-more : (k : Next) → next_after p.number ≡ k → Comes k n → Next-traced
-  traced-more MoreInput e c = fed-more e
-  traced-more EmptiedOutput e c = emptied-more e c
-  traced-more Over e c = absurd c
+  traced_more : (k : Next) → next_after p.number ≡ k → Comes k n → Next-traced
+  traced_more MoreInput e c = fed_more e
+  traced_more EmptiedOutput e c = emptied_more e c
+  traced_more Over e c = absurd c
 
 -- WHAT STEPS REACH, TURNS COME TO
 pub traced : {m₀ : Model} {steps : ℕ} {p : Progress} {input came log : List ℕ} → Reached m₀ steps p input came log → Traced m₀ p input came log
@@ -160,4 +160,4 @@ traced (at-start input) =
       passed = refl;
       bytes = refl;
     }
-traced {p = p} (next r n filled output comes kept fits) = traced-more (traced r) n filled output kept (next_after _) refl comes
+traced {p = p} (next r n filled output comes kept fits) = traced_more (traced r) n filled output kept (next_after _) refl comes

@@ -44,11 +44,11 @@ session_length m xs room = ap (λ k. length k.instances) (session_model m xs roo
 -- ---- a turn with room for the records of one tick, and for one answer, that ends by 9 carries out something
 module _ (m : Model) (xs : List ℕ) (room : ℕ) (few : length m.instances ≤ 16) (enough : 160 ≤ room) where
   -- the first record, if it is refused by 9
-  ticks-some : (why : Refusal) (t : ℕ) (m' : Model) (log : List Logged) → step (asked xs m) room m [] ≡ refused why t m' log → number_of why ≡ 9 → 0 < t
+  ticks_some : (why : Refusal) (t : ℕ) (m' : Model) (log : List Logged) → step (asked xs m) room m [] ≡ refused why t m' log → number_of why ≡ 9 → 0 < t
   unfolding step
-  ticks-some why t m' log =
+  ticks_some why t m' log =
       by_kinds (λ a. step a room m [] ≡ refused why t m' log → number_of why ≡ 9 → 0 < t) xs m refuse
-      (λ sensor e n. absurd (taken≢refused e)) (λ e n. absurd (taken≢refused e)) (answer (byte xs 2) (byte xs 3) (byte xs 4)) (λ h k e n. tick-some (word xs 2) e)
+      (λ sensor e n. absurd (taken≢refused e)) (λ e n. absurd (taken≢refused e)) (answer (byte xs 2) (byte xs 3) (byte xs 4)) (λ h k e n. tick_some (word xs 2) e)
     where
       refuse : (w : Refusal) → number_of w ≢ 9 → step (Refused w) room m [] ≡ refused why t m' log → number_of why ≡ 9 → 0 < t
       refuse w other e n = let same : w ≡ why = cc in absurd (other (ap number_of same ∙ n))
@@ -56,8 +56,8 @@ module _ (m : Model) (xs : List ℕ) (room : ℕ) (few : length m.instances ≤ 
       answer : (a b c : ℕ) → step (Frame a b c) room m [] ≡ refused why t m' log → number_of why ≡ 9 → 0 < t
       answer a b c e n = absurd (omega (arith, full_answer a b c room m [] e, frame_most m a b c, nothing_left room))
 
-      tick-some : (n : ℕ) → step (Ticks n) room m [] ≡ refused why t m' log → 0 < t
-      tick-some n e = by t (tick_of_nine n room m [] e).2
+      tick_some : (n : ℕ) → step (Ticks n) room m [] ≡ refused why t m' log → 0 < t
+      tick_some n e = by t (tick_of_nine n room m [] e).2
         where
           by : (t : ℕ) → NoRoomAfter t room m [] → 0 < t
           by zero h = absurd (omega (arith, now_full room m [] h, tick_most m, nothing_left room))
@@ -71,10 +71,10 @@ module _ (m : Model) (xs : List ℕ) (room : ℕ) (few : length m.instances ≤ 
   some : 0 < length xs
   some = omega (arith, offset_refused m xs room (omega arith))
 
-  fewer-ticks : (why : Refusal) (t : ℕ) (m' : Model) (log : List Logged) → step (asked xs m) room m [] ≡ refused why t m' log → 0 < t
+  fewer_ticks : (why : Refusal) (t : ℕ) (m' : Model) (log : List Logged) → step (asked xs m) room m [] ≡ refused why t m' log → 0 < t
       → word (remaining t xs) 2 < word xs 2
-  fewer-ticks why zero m' log e h = absurd (omega arith)
-  fewer-ticks why (suc t) m' log e h =
+  fewer_ticks why zero m' log e h = absurd (omega arith)
+  fewer_ticks why (suc t) m' log e h =
       let (fewer, stand, full) = part_left (refused_kept (asked xs m) room m [] e) in
       let n : ticks_of (asked xs m) ≡ word xs 2 = count_of xs m (omega arith) in
       rw (remaining_ticks m xs t fewer) (omega (arith, count (ticks_of (asked xs m) - suc t)))
@@ -93,7 +93,7 @@ module _ (m : Model) (xs : List ℕ) (room : ℕ) (few : length m.instances ≤ 
           let there : unread (session m xs room) xs ≡ remaining t xs = ap (λ r. unread r xs) r in
           inr (
             omega (arith, unread_long (session m xs room) xs),
-            rw there (fewer-ticks why t m' log e (ticks-some m xs room few enough why t m' log e (omega arith))),
+            rw there (fewer_ticks why t m' log e (ticks_some m xs room few enough why t m' log e (omega arith))),
           )
 
 -- ---- so after some number of turns it is over
@@ -112,9 +112,9 @@ module _ (room : ℕ) (enough : 160 ≤ room) where
   unfolding turned
   turn_small h s = omega (arith, session_length h.model h.unread room)
 
-  turn-coming : (h : Held) → (turn room h).coming ≡ h.coming
+  turn_coming : (h : Held) → (turn room h).coming ≡ h.coming
   unfolding turned
-  turn-coming h = refl
+  turn_coming h = refl
 
   ends_now : (h : Held) → over h ≡ true → Ends h
   unfolding streamed
@@ -125,9 +125,9 @@ module _ (room : ℕ) (enough : 160 ≤ room) where
   ends_next h e (n, o) = (suc n, subst (λ k. over (streamed (replicate n room) k) ≡ true) (sym e) o)
 
   -- after another number than 9: over, or the next turn has a piece less to come
-  ends-other : (p : ℕ) → Fewer p → (h : Held) → Small h → length h.coming ≤ p → h.number ≢ 9 → Ends h
+  ends_other : (p : ℕ) → Fewer p → (h : Held) → Small h → length h.coming ≤ p → h.number ≢ 9 → Ends h
   unfolding turn_by over_by
-  ends-other p fewer h s few n = go h.coming refl
+  ends_other p fewer h s few n = go h.coming refl
     where
       go : (coming : List (List ℕ)) → h.coming ≡ coming → Ends h
       go [] c = ends_now h (rw c (number_over h.number n))
@@ -137,7 +137,7 @@ module _ (room : ℕ) (enough : 160 ≤ room) where
           by MoreInput e =
               ends_next h (ap₂ (λ k c. turn_by k c room h) e c)
               (fewer (turn room (fed h piece pieces)) (turn_small (fed h piece pieces) s)
-              (omega (arith, ap length c, ap length (turn-coming (fed h piece pieces)))))
+              (omega (arith, ap length c, ap length (turn_coming (fed h piece pieces)))))
           by EmptiedOutput e = absurd (n (after_emptied h.number e))
           by Over e = ends_now h (rw e refl)
 
@@ -147,10 +147,10 @@ module _ (room : ℕ) (enough : 160 ≤ room) where
     Shorter l = (h : Held) → Small h → length h.coming ≤ p → h.number ≡ 9 → length h.unread < l → Ends h
 
     -- a turn after a 9, where those that end by 9 with as much unread but fewer ticks are known to end
-    ends-nine : (l : ℕ) → Shorter l → (h : Held) → Small h → length h.coming ≤ p → h.number ≡ 9 → length h.unread ≤ l
+    ends_nine : (l : ℕ) → Shorter l → (h : Held) → Small h → length h.coming ≤ p → h.number ≡ 9 → length h.unread ≤ l
         → (word (turn room h).unread 2 < word h.unread 2 → length (turn room h).unread ≤ l → (turn room h).number ≡ 9 → Ends (turn room h)) → Ends h
     unfolding turned turn_by next_after
-    ends-nine l shorter h s few nine long onward = ends_next h (rw nine) (go (ℕ_discrete (session h.model h.unread room).number 9))
+    ends_nine l shorter h s few nine long onward = ends_next h (rw nine) (go (ℕ_discrete (session h.model h.unread room).number 9))
       where
         by : (turn room h).number ≡ 9 → Less (turn room h).unread h.unread → Ends (turn room h)
         by again (inl less) = shorter (turn room h) (turn_small h s) few again (omega arith)
@@ -158,27 +158,27 @@ module _ (room : ℕ) (enough : 160 ≤ room) where
 
         go : Dec ((turn room h).number ≡ 9) → Ends (turn room h)
         go (yes again) = by again (less h.model h.unread room s enough again)
-        go (no other) = ends-other p fewer (turn room h) (turn_small h s) few other
+        go (no other) = ends_other p fewer (turn room h) (turn_small h s) few other
 
     by_count : (l : ℕ) → Shorter l → (n : ℕ) (h : Held) → Small h → length h.coming ≤ p → h.number ≡ 9
         → length h.unread ≤ l → word h.unread 2 ≤ n → Ends h
-    by_count l shorter zero h s few nine long most = ends-nine l shorter h s few nine long (λ less as_long again. absurd (omega arith))
+    by_count l shorter zero h s few nine long most = ends_nine l shorter h s few nine long (λ less as_long again. absurd (omega arith))
     by_count l shorter (suc n) h s few nine long most =
-        ends-nine l shorter h s few nine long
-        (λ less as_long again. by_count l shorter n (turn room h) (turn_small h s) (rw (turn-coming h) few) again as_long (omega arith))
+        ends_nine l shorter h s few nine long
+        (λ less as_long again. by_count l shorter n (turn room h) (turn_small h s) (rw (turn_coming h) few) again as_long (omega arith))
 
     by_length : (l : ℕ) → Shorter l
     by_length zero h s few nine short = absurd (omega arith)
     by_length (suc l) h s few nine short = by_count l (by_length l) (word h.unread 2) h s few nine (omega arith) (omega arith)
 
-  by-pieces : (p : ℕ) → Fewer p
-  by-pieces zero h s few = absurd (omega arith)
-  by-pieces (suc p) h s few = go (ℕ_discrete h.number 9) (by-pieces p)
+  by_pieces : (p : ℕ) → Fewer p
+  by_pieces zero h s few = absurd (omega arith)
+  by_pieces (suc p) h s few = go (ℕ_discrete h.number 9) (by_pieces p)
     where
       go : Dec (h.number ≡ 9) → Fewer p → Ends h
       go (yes nine) fewer = by_length p fewer (suc (length h.unread)) h s (omega arith) nine (omega arith)
-      go (no other) fewer = ends-other p fewer h s (omega arith) other
+      go (no other) fewer = ends_other p fewer h s (omega arith) other
 
   -- THE TURNS END
   pub ends : (m : Model) → length m.instances ≤ 16 → (pieces : List (List ℕ)) → Ends (start m pieces)
-  ends m few pieces = by-pieces (suc (length pieces)) (start m pieces) few (omega arith)
+  ends m few pieces = by_pieces (suc (length pieces)) (start m pieces) few (omega arith)

@@ -33,9 +33,9 @@ abbrev StillHeld : Held → Type 0
 StillHeld h = Still h.model h.unread h.number
 
 module _ (room : ℕ) where
-  turn-rest : (h : Held) (big : ℕ) → size (turn room h).log ≤ big → rest big h ≡ rest big (turn room h)
+  turn_rest : (h : Held) (big : ℕ) → size (turn room h).log ≤ big → rest big h ≡ rest big (turn room h)
   unfolding turned
-  turn-rest h big enough =
+  turn_rest h big enough =
       let e = session h.model h.unread room in
       let both : size (h.log ++ e.log) ≡ size h.log + size e.log = rw (bytes_append, length-append) in
       let left = session e.model (unread e h.unread ++ joined h.coming) in
@@ -44,51 +44,51 @@ module _ (room : ℕ) where
       (behind_behind h.offset e.offset h.log e.log (left (big - size h.log - size e.log))
       ∙ ap (λ k. behind (h.offset + e.offset) (h.log ++ e.log) (left k)) (room_behind big h.log e.log))
 
-  next-rest : (h : Held) (big : ℕ) → size (next_turn room h).log ≤ big → rest big h ≡ rest big (next_turn room h)
+  next_rest : (h : Held) (big : ℕ) → size (next_turn room h).log ≤ big → rest big h ≡ rest big (next_turn room h)
   unfolding turn_by joined
-  next-rest h big enough = go (next_after h.number) h.coming refl enough
+  next_rest h big enough = go (next_after h.number) h.coming refl enough
     where
       go : (n : Next) (coming : List (List ℕ)) → h.coming ≡ coming → size (turn_by n coming room h).log ≤ big → rest big h ≡ rest big (turn_by n coming room h)
       go MoreInput [] e enough = refl
       go MoreInput (piece ∷ pieces) e enough =
           ap (λ l. untimed (behind h.offset h.log (session h.model l (big - size h.log))))
           (ap (λ c. h.unread ++ joined c) e ∙ sym (append_assoc h.unread piece (joined pieces)))
-          ∙ turn-rest (fed h piece pieces) big enough
-      go EmptiedOutput coming e enough = turn-rest h big enough
+          ∙ turn_rest (fed h piece pieces) big enough
+      go EmptiedOutput coming e enough = turn_rest h big enough
       go Over coming e enough = refl
 
-  turn-still : (h : Held) → StillHeld (turn room h)
+  turn_still : (h : Held) → StillHeld (turn room h)
   unfolding turned
-  turn-still h = still h.model h.unread room
+  turn_still h = still h.model h.unread room
 
-  turn-longer : (h : Held) → size h.log ≤ size (turn room h).log
+  turn_longer : (h : Held) → size h.log ≤ size (turn room h).log
   unfolding turned
-  turn-longer h = rw (bytes_append, length-append) (omega arith)
+  turn_longer h = rw (bytes_append, length-append) (omega arith)
 
-  next-still : (h : Held) → StillHeld h → StillHeld (next_turn room h)
+  next_still : (h : Held) → StillHeld h → StillHeld (next_turn room h)
   unfolding turn_by
-  next-still h s = go (next_after h.number) h.coming
+  next_still h s = go (next_after h.number) h.coming
     where
       go : (n : Next) (coming : List (List ℕ)) → StillHeld (turn_by n coming room h)
       go MoreInput [] = s
-      go MoreInput (piece ∷ pieces) = turn-still (fed h piece pieces)
-      go EmptiedOutput coming = turn-still h
+      go MoreInput (piece ∷ pieces) = turn_still (fed h piece pieces)
+      go EmptiedOutput coming = turn_still h
       go Over coming = s
 
-  next-longer : (h : Held) → size h.log ≤ size (next_turn room h).log
+  next_longer : (h : Held) → size h.log ≤ size (next_turn room h).log
   unfolding turn_by
-  next-longer h = go (next_after h.number) h.coming
+  next_longer h = go (next_after h.number) h.coming
     where
       go : (n : Next) (coming : List (List ℕ)) → size h.log ≤ size (turn_by n coming room h).log
       go MoreInput [] = omega arith
-      go MoreInput (piece ∷ pieces) = turn-longer (fed h piece pieces)
-      go EmptiedOutput coming = turn-longer h
+      go MoreInput (piece ∷ pieces) = turn_longer (fed h piece pieces)
+      go EmptiedOutput coming = turn_longer h
       go Over coming = omega arith
 
 longer : (rooms : List ℕ) (h : Held) → size h.log ≤ size (streamed rooms h).log
 unfolding streamed
 longer [] h = omega arith
-longer (room ∷ rooms) h = omega (arith, next-longer room h, longer rooms (next_turn room h))
+longer (room ∷ rooms) h = omega (arith, next_longer room h, longer rooms (next_turn room h))
 
 -- ---- over: where no more input is to come, after every number but 9
 pub over_number : (number : ℕ) (coming : List (List ℕ)) → over_by (next_after number) coming ≡ true → number ≢ 9
@@ -127,5 +127,5 @@ pub streams_from : (rooms : List ℕ) (h : Held) → StillHeld h → over (strea
 unfolding streamed
 streams_from [] h s o big enough = over_rest h big s o
 streams_from (room ∷ rooms) h s o big enough =
-    next-rest room h big (omega (arith, longer rooms (next_turn room h)))
-    ∙ streams_from rooms (next_turn room h) (next-still room h s) o big enough
+    next_rest room h big (omega (arith, longer rooms (next_turn room h)))
+    ∙ streams_from rooms (next_turn room h) (next_still room h s) o big enough

@@ -79,31 +79,31 @@ module _ (m : Model) where
   unfolding instance_at
   at_as i = get_or-map as_in m.instances i sensors.blank
 
-  acted-as : (i opcode : ℕ)
+  acted_as : (i opcode : ℕ)
       → acted (instance_at (model_as_in m) i) opcode m.dtr0
       ≡ leaving (as_in (acted (instance_at m i) opcode m.dtr0).instance) (acted (instance_at m i) opcode m.dtr0).dtr0 (acted (instance_at m i) opcode m.dtr0).answer
-  acted-as i opcode = ap (λ x. acted x opcode m.dtr0) (at_as i) ∙ act_as (instance_at m i) opcode m.dtr0
+  acted_as i opcode = ap (λ x. acted x opcode m.dtr0) (at_as i) ∙ act_as (instance_at m i) opcode m.dtr0
 
-  frame-log-as : (first second third : ℕ) → frame_log (model_as_in m) first second third ≡ frame_log m first second third
+  frame_log_as : (first second third : ℕ) → frame_log (model_as_in m) first second third ≡ frame_log m first second third
   unfolding frame_log numbered_log counts known
-  frame-log-as first second third =
-      ap (λ a. cond (loads first second) [] (cond (counts m first second) (answer_log m.tick second a.answer) [])) (acted-as second third)
+  frame_log_as first second third =
+      ap (λ a. cond (loads first second) [] (cond (counts m first second) (answer_log m.tick second a.answer) [])) (acted_as second third)
 
-  judged-as : (first second third : ℕ) → judged (model_as_in m) first second third ≡ judged m first second third
+  judged_as : (first second third : ℕ) → judged (model_as_in m) first second third ≡ judged m first second third
   unfolding judged counts known
-  judged-as first second third =
+  judged_as first second third =
       ap (λ b. cond (loads first second) Load (cond (counts m first second) (cond b (Sets second) (Acts second)) Nobody))
       (ap (λ x. is_setting (meant x.kind third)) (at_as second) ∙ ap is_setting (meant_as (instance_at m second).kind third))
 
-  frame-as : (first second third : ℕ) → frame_model (model_as_in m) first second third ≡ model_as_in (frame_model m first second third)
+  frame_as : (first second third : ℕ) → frame_model (model_as_in m) first second third ≡ model_as_in (frame_model m first second third)
   unfolding frame_model heeded numbered_model
-  frame-as first second third =
-      ap (λ j. heeded (model_as_in m) first second third (as_repeat j (again m first second third))) (judged-as first second third)
+  frame_as first second third =
+      ap (λ j. heeded (model_as_in m) first second third (as_repeat j (again m first second third))) (judged_as first second third)
       ∙ go (as_repeat (judged m first second third) (again m first second third))
     where
       number : (i : ℕ) → numbered_model (model_as_in m) i third ≡ model_as_in (numbered_model m i third)
       number i =
-          ap (λ a. under_way (put_back i a (model_as_in m))) (acted-as i third)
+          ap (λ a. under_way (put_back i a (model_as_in m))) (acted_as i third)
           ∙ ap (λ xs. under_way (with_dtr0 (acted (instance_at m i) third m.dtr0).dtr0 (with_instances xs m))) (set_as m.instances i (acted (instance_at m i) third m.dtr0).instance)
 
       go : (j : Judged) → heeded (model_as_in m) first second third j ≡ model_as_in (heeded m first second third j)
@@ -112,18 +112,18 @@ module _ (m : Model) where
       go (Acts i) = ap forgetting (number i)
       go Nobody = refl
 
-  held-as : (i : ℕ) (sample : Sample) → held_model (model_as_in m) i sample ≡ model_as_in (held_model m i sample)
+  held_as : (i : ℕ) (sample : Sample) → held_model (model_as_in m) i sample ≡ model_as_in (held_model m i sample)
   unfolding held_model holding
-  held-as i sample =
+  held_as i sample =
       ap (λ x. under_way (with_instance i (holding x sample) (model_as_in m))) (at_as i)
       ∙ ap (λ xs. under_way (with_instances xs m)) (set_as m.instances i (holding (instance_at m i) sample))
 
   -- as IN declares it, whatever of the two is declared next
-  declare-as : (sensor : Sensor)
+  declare_as : (sensor : Sensor)
       → model_as_in (declared_model m sensor)
       ≡ cond (ltb m.declared 16) (with_declared (m.declared + 1) (with_instance m.declared (as_in (sensors.declared sensor)) (model_as_in m))) (model_as_in m)
   unfolding declared_model
-  declare-as sensor = go (ltb m.declared 16)
+  declare_as sensor = go (ltb m.declared 16)
     where
       go : (b : Bool)
           → model_as_in (cond b (with_declared (m.declared + 1) (with_instance m.declared (sensors.declared sensor) m)) m)
@@ -132,35 +132,35 @@ module _ (m : Model) where
       go false = refl
 
   module _ (a : AllInRange m.instances) where
-    tick-log-as : tick_log (model_as_in m) ≡ tick_log m
+    tick_log_as : tick_log (model_as_in m) ≡ tick_log m
     unfolding tick_log
-    tick-log-as = log_as (m.tick + 1) 0 m.declared m.instances a
+    tick_log_as = log_as (m.tick + 1) 0 m.declared m.instances a
 
-    ticked-as : tick_model (model_as_in m) ≡ model_as_in (tick_model m)
+    ticked_as : tick_model (model_as_in m) ≡ model_as_in (tick_model m)
     unfolding tick_model
-    ticked-as = ap (λ xs. under_way (with_tick (m.tick + 1) (with_instances xs m))) (sweep_as m.declared m.instances a)
+    ticked_as = ap (λ xs. under_way (with_tick (m.tick + 1) (with_instances xs m))) (sweep_as m.declared m.instances a)
 
-    frame-range : (first second third : ℕ) → AllInRange (frame_model m first second third).instances
+    frame_range : (first second third : ℕ) → AllInRange (frame_model m first second third).instances
     unfolding numbered_model instance_at
-    frame-range first second third =
+    frame_range first second third =
         frame_by m first second third (λ x. AllInRange x.instances) a
         (all_set m.instances second _ a (act_in_range (instance_at m second) (all_at m.instances second a) third m.dtr0)) a a
 
-    held-range : (i : ℕ) (sample : Sample) → allowed m i sample ≡ true → AllInRange (held_model m i sample).instances
+    held_range : (i : ℕ) (sample : Sample) → allowed m i sample ≡ true → AllInRange (held_model m i sample).instances
     unfolding held_model instance_at allowed
-    held-range i sample e = all_set m.instances i _ a (hold_in_range (instance_at m i) sample (all_at m.instances i a) (go (ltb i 16) e))
+    held_range i sample e = all_set m.instances i _ a (hold_in_range (instance_at m i) sample (all_at m.instances i a) (go (ltb i 16) e))
       where
         go : (b : Bool) → cond b (allows (instance_at m i).kind sample) false ≡ true → allows (instance_at m i).kind sample ≡ true
         go true t = t
         go false t = absurd (false≢true t)
 
-    tick-range : AllInRange (tick_model m).instances
+    tick_range : AllInRange (tick_model m).instances
     unfolding tick_model
-    tick-range = all_sweep m.declared m.instances a
+    tick_range = all_sweep m.declared m.instances a
 
-    declare-range : (sensor : Sensor) → AllInRange (declared_model m sensor).instances
+    declare_range : (sensor : Sensor) → AllInRange (declared_model m sensor).instances
     unfolding declared_model
-    declare-range sensor = go (ltb m.declared 16)
+    declare_range sensor = go (ltb m.declared 16)
       where
         go : (b : Bool) → AllInRange (cond b (with_declared (m.declared + 1) (with_instance m.declared (sensors.declared sensor) m)) m).instances
         go true = all_set m.instances m.declared (sensors.declared sensor) a (declared_in_range sensor)
@@ -170,42 +170,42 @@ module _ (m : Model) where
 module _ {m m' : Model} (a : Alike m m') where
   pub same_frame_log : (first second third : ℕ) → frame_log m first second third ≡ frame_log m' first second third
   same_frame_log first second third =
-      sym (frame-log-as m first second third) ∙ ap (λ k. frame_log k first second third) a.same ∙ frame-log-as m' first second third
+      sym (frame_log_as m first second third) ∙ ap (λ k. frame_log k first second third) a.same ∙ frame_log_as m' first second third
 
   pub same_tick_log : tick_log m ≡ tick_log m'
-  same_tick_log = sym (tick-log-as m a.range) ∙ ap tick_log a.same ∙ tick-log-as m' a.range'
+  same_tick_log = sym (tick_log_as m a.range) ∙ ap tick_log a.same ∙ tick_log_as m' a.range'
 
   pub alike_frame : (first second third : ℕ) → Alike (frame_model m first second third) (frame_model m' first second third)
   alike_frame first second third =
       record {
-        same = sym (frame-as m first second third) ∙ ap (λ k. frame_model k first second third) a.same ∙ frame-as m' first second third;
-        range = frame-range m a.range first second third;
-        range' = frame-range m' a.range' first second third;
+        same = sym (frame_as m first second third) ∙ ap (λ k. frame_model k first second third) a.same ∙ frame_as m' first second third;
+        range = frame_range m a.range first second third;
+        range' = frame_range m' a.range' first second third;
       }
 
   pub alike_tick : Alike (tick_model m) (tick_model m')
   alike_tick =
       record {
-        same = sym (ticked-as m a.range) ∙ ap tick_model a.same ∙ ticked-as m' a.range';
-        range = tick-range m a.range;
-        range' = tick-range m' a.range';
+        same = sym (ticked_as m a.range) ∙ ap tick_model a.same ∙ ticked_as m' a.range';
+        range = tick_range m a.range;
+        range' = tick_range m' a.range';
       }
 
   pub alike_held : (i : ℕ) (sample : Sample) → allowed m i sample ≡ true → allowed m' i sample ≡ true → Alike (held_model m i sample) (held_model m' i sample)
   alike_held i sample e e' =
       record {
-        same = sym (held-as m i sample) ∙ ap (λ k. held_model k i sample) a.same ∙ held-as m' i sample;
-        range = held-range m a.range i sample e;
-        range' = held-range m' a.range' i sample e';
+        same = sym (held_as m i sample) ∙ ap (λ k. held_model k i sample) a.same ∙ held_as m' i sample;
+        range = held_range m a.range i sample e;
+        range' = held_range m' a.range' i sample e';
       }
 
   pub alike_declared : (s s' : Sensor) → as_in (sensors.declared s) ≡ as_in (sensors.declared s') → Alike (declared_model m s) (declared_model m' s')
   alike_declared s s' e =
       record {
         same =
-            declare-as m s
+            declare_as m s
             ∙ ap₂ (λ k x. cond (ltb k.declared 16) (with_declared (k.declared + 1) (with_instance k.declared x k)) k) a.same e
-            ∙ sym (declare-as m' s');
-        range = declare-range m a.range s;
-        range' = declare-range m' a.range' s';
+            ∙ sym (declare_as m' s');
+        range = declare_range m a.range s;
+        range' = declare_range m' a.range' s';
       }

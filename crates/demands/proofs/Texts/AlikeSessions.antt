@@ -32,17 +32,17 @@ use mathlib.Core.Path.{ap, refl, subst, sym, ◌∙◌, ◌≡◌}
 
 -- ---- what a record asks for does not go by the text
 module _ (rest : List ℕ) (m : Model) where
-  by-mark : (k : Mark) → asked_by k rest (model_as_in m) ≡ asked_by k rest m
+  by_mark : (k : Mark) → asked_by k rest (model_as_in m) ≡ asked_by k rest m
   unfolding asked_by declare_asked sample_asked ticks_asked allowed known goes_back
-  by-mark Unknown = refl
-  by-mark Declaration = refl
-  by-mark Measurement = rw (at_as m (byte rest 2), allows_as (instance_at m (byte rest 2)).kind (sample_in rest))
-  by-mark Bus = refl
-  by-mark Time = refl
+  by_mark Unknown = refl
+  by_mark Declaration = refl
+  by_mark Measurement = rw (at_as m (byte rest 2), allows_as (instance_at m (byte rest 2)).kind (sample_in rest))
+  by_mark Bus = refl
+  by_mark Time = refl
 
-  asked-as : asked rest (model_as_in m) ≡ asked rest m
+  asked_as : asked rest (model_as_in m) ≡ asked rest m
   unfolding asked
-  asked-as = ap (cond (ltb (length rest) 2) (Refused Cut)) (by-mark (mark_of (word rest 0)))
+  asked_as = ap (cond (ltb (length rest) 2) (Refused Cut)) (by_mark (mark_of (word rest 0)))
 
 -- a sample that is to be held is one that is allowed
 abbrev Held : Model → Asked → Type 0
@@ -53,54 +53,54 @@ Held m (Frame first second third) = Unit {0}
 Held m (Ticks n) = Unit {0}
 
 module _ (rest : List ℕ) (m : Model) where
-  held-or : (b : Bool) (x y : Asked) → Held m x → Held m y → Held m (cond b x y)
-  held-or true x y p q = p
-  held-or false x y p q = q
+  held_or : (b : Bool) (x y : Asked) → Held m x → Held m y → Held m (cond b x y)
+  held_or true x y p q = p
+  held_or false x y p q = q
 
-  held-sensor : (d : Declares) → Held m (sensor_asked d)
-  held-sensor Nothing = tt
-  held-sensor (One sensor) = tt
+  held_sensor : (d : Declares) → Held m (sensor_asked d)
+  held_sensor Nothing = tt
+  held_sensor (One sensor) = tt
 
-  held-sample : (b c d : Bool) → allowed m (byte rest 2) (sample_in rest) ≡ c
+  held_sample : (b c d : Bool) → allowed m (byte rest 2) (sample_in rest) ≡ c
       → Held m (cond b (cond c (cond d (Refused NotReadyAgain) (Hold (byte rest 2) (sample_in rest))) (Refused BadSample)) (Refused Undeclared))
-  held-sample false c d e = tt
-  held-sample true false d e = tt
-  held-sample true true true e = tt
-  held-sample true true false e = e
+  held_sample false c d e = tt
+  held_sample true false d e = tt
+  held_sample true true true e = tt
+  held_sample true true false e = e
 
   held_by : (k : Mark) → Held m (asked_by k rest m)
   unfolding asked_by declare_asked sample_asked frame_asked ticks_asked
   held_by Unknown = tt
   held_by Declaration =
-      held-or (ltb (length rest) (mark_size Declaration)) _ _ tt
-      (held-or (m.running || not (eqb (byte rest 2) m.declared)) _ _ tt (held-or (ltb (byte rest 2) 16) _ _ (held-sensor (declared_in rest)) tt))
+      held_or (ltb (length rest) (mark_size Declaration)) _ _ tt
+      (held_or (m.running || not (eqb (byte rest 2) m.declared)) _ _ tt (held_or (ltb (byte rest 2) 16) _ _ (held_sensor (declared_in rest)) tt))
   held_by Measurement =
-      held-or (ltb (length rest) (mark_size Measurement)) _ _ tt
-      (held-sample (known m (byte rest 2)) (allowed m (byte rest 2) (sample_in rest)) (goes_back (instance_at m (byte rest 2)) (sample_in rest)) refl)
-  held_by Bus = held-or (ltb (length rest) (mark_size Bus)) _ _ tt tt
+      held_or (ltb (length rest) (mark_size Measurement)) _ _ tt
+      (held_sample (known m (byte rest 2)) (allowed m (byte rest 2) (sample_in rest)) (goes_back (instance_at m (byte rest 2)) (sample_in rest)) refl)
+  held_by Bus = held_or (ltb (length rest) (mark_size Bus)) _ _ tt tt
   held_by Time =
-      held-or (ltb (length rest) (mark_size Time)) _ _ tt
-      (held-or (eqb (word rest 2) 0) _ _ tt
-      (held-or (ltb (4294967295 - m.tick) (word rest 2)) _ _ tt (held-or (ltb m.last (m.tick + word rest 2)) _ _ tt tt)))
+      held_or (ltb (length rest) (mark_size Time)) _ _ tt
+      (held_or (eqb (word rest 2) 0) _ _ tt
+      (held_or (ltb (4294967295 - m.tick) (word rest 2)) _ _ tt (held_or (ltb m.last (m.tick + word rest 2)) _ _ tt tt)))
 
   held : Held m (asked rest m)
   unfolding asked
-  held = held-or (ltb (length rest) 2) _ _ tt (held_by (mark_of (word rest 0)))
+  held = held_or (ltb (length rest) 2) _ _ tt (held_by (mark_of (word rest 0)))
 
 pub same_asked : (rest : List ℕ) {m m' : Model} → Alike m m' → asked rest m ≡ asked rest m'
-same_asked rest {m} {m'} a = sym (asked-as rest m) ∙ ap (asked rest) a.same ∙ asked-as rest m'
+same_asked rest {m} {m'} a = sym (asked_as rest m) ∙ ap (asked rest) a.same ∙ asked_as rest m'
 
 -- ---- a step
 pub data Steps : Step → Step → Type 0 where
-  both-taken : {m m' : Model} {log : List Logged} → Alike m m' → Steps (taken m log) (taken m' log)
-  both-refused : {why : Refusal} {t : ℕ} {m m' : Model} {log : List Logged} → Alike m m' → Steps (refused why t m log) (refused why t m' log)
+  both_taken : {m m' : Model} {log : List Logged} → Alike m m' → Steps (taken m log) (taken m' log)
+  both_refused : {why : Refusal} {t : ℕ} {m m' : Model} {log : List Logged} → Alike m m' → Steps (refused why t m log) (refused why t m' log)
 
 module _ (room : ℕ) where
-  ticking-alike : (n done : ℕ) {m m' : Model} (log : List Logged) → Alike m m' → Steps (ticking n done room m log) (ticking n done room m' log)
+  ticking_alike : (n done : ℕ) {m m' : Model} (log : List Logged) → Alike m m' → Steps (ticking n done room m log) (ticking n done room m' log)
   unfolding ticking
-  ticking-alike zero done log a = both-taken a
-  ticking-alike (suc n) done {m} {m'} log a =
-      subst (λ more. Steps (ticking (suc n) done room m log) (next' more)) (same_tick_log a) (go (fits room log (tick_log m)) (ticking-alike n (done + 1) (log ++ tick_log m) (alike_tick a)))
+  ticking_alike zero done log a = both_taken a
+  ticking_alike (suc n) done {m} {m'} log a =
+      subst (λ more. Steps (ticking (suc n) done room m log) (next' more)) (same_tick_log a) (go (fits room log (tick_log m)) (ticking_alike n (done + 1) (log ++ tick_log m) (alike_tick a)))
     where
       next' : List Logged → Step
       next' more = elim (fits room log more) [ true ↦ ticking n (done + 1) room (tick_model m') (log ++ more) | false ↦ refused Full done m' log ]
@@ -110,15 +110,15 @@ module _ (room : ℕ) where
           (elim b [ true ↦ ticking n (done + 1) room (tick_model m) (log ++ tick_log m) | false ↦ refused Full done m log ])
           (elim b [ true ↦ ticking n (done + 1) room (tick_model m') (log ++ tick_log m) | false ↦ refused Full done m' log ])
       go true ih = ih
-      go false ih = both-refused a
+      go false ih = both_refused a
 
   -- what is asked for is held, if it is a sample, in both
   pub step_alike : (a : Asked) {m m' : Model} (log : List Logged) → Alike m m' → Held m a → Held m' a → Steps (step a room m log) (step a room m' log)
   unfolding step
-  step_alike (Refused why) log a h h' = both-refused a
-  step_alike (Declare sensor) log a h h' = both-taken (alike_declared a sensor sensor refl)
-  step_alike (Hold i sample) log a h h' = both-taken (alike_held a i sample h h')
-  step_alike (Ticks n) log a h h' = ticking-alike n 0 log a
+  step_alike (Refused why) log a h h' = both_refused a
+  step_alike (Declare sensor) log a h h' = both_taken (alike_declared a sensor sensor refl)
+  step_alike (Hold i sample) log a h h' = both_taken (alike_held a i sample h h')
+  step_alike (Ticks n) log a h h' = ticking_alike n 0 log a
   step_alike (Frame first second third) {m} {m'} log a h h' =
       subst (λ more. Steps (step (Frame first second third) room m log) (next' more)) (same_frame_log a first second third) (go (fits room log (frame_log m first second third)))
     where
@@ -129,8 +129,8 @@ module _ (room : ℕ) where
           → Steps
           (elim b [ true ↦ taken (frame_model m first second third) (log ++ frame_log m first second third) | false ↦ refused Full 0 m log ])
           (elim b [ true ↦ taken (frame_model m' first second third) (log ++ frame_log m first second third) | false ↦ refused Full 0 m' log ])
-      go true = both-taken (alike_frame a first second third)
-      go false = both-refused a
+      go true = both_taken (alike_frame a first second third)
+      go false = both_refused a
 
 -- ---- A SESSION
 reading_alike : (most : ℕ) (rest : List ℕ) (room at : ℕ) {m m' : Model} (log : List Logged) → Alike m m'
@@ -159,8 +159,8 @@ reading_alike (suc most) (b ∷ rest) room at {m} {m'} log a =
         (reading most (drop (size_of (asked (b ∷ rest) m)) (b ∷ rest)) room (at + size_of (asked (b ∷ rest) m)) k log')
         (reading most (drop (size_of (asked (b ∷ rest) m)) (b ∷ rest)) room (at + size_of (asked (b ∷ rest) m)) k' log'))
         → Same (goes (asked (b ∷ rest) m) s) (goes (asked (b ∷ rest) m) s')
-    go (both-taken alike) ih = ih _ _ _ alike
-    go (both-refused alike) ih = record { number = refl; offset = refl; ticks = refl; log = refl; models = alike }
+    go (both_taken alike) ih = ih _ _ _ alike
+    go (both_refused alike) ih = record { number = refl; offset = refl; ticks = refl; log = refl; models = alike }
 
 pub session_alike : (xs : List ℕ) (room : ℕ) {m m' : Model} → Alike m m' → Same (session m xs room) (session m' xs room)
 unfolding session

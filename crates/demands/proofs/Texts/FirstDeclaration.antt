@@ -52,8 +52,8 @@ unfolding step
 read_refused m xs room why h e = session_refused m xs room h (ap (λ a. step a room m []) e)
 
 module _ (r : ℕ) (whole : whole_bytes r ≡ true) where
-  not-two : eqb r 2 ≡ false
-  not-two = go (eqb r 8) refl (eqb r 16) refl (eqb r 24) refl whole
+  not_two : eqb r 2 ≡ false
+  not_two = go (eqb r 8) refl (eqb r 16) refl (eqb r 24) refl whole
     where
       go : (a : Bool) → eqb r 8 ≡ a → (b : Bool) → eqb r 16 ≡ b → (c : Bool) → eqb r 24 ≡ c → a || (b || c) ≡ true → eqb r 2 ≡ false
       go true e b f c g i = ne_eqb r 2 (λ z. omega (arith, eqb-true r 8 e))
@@ -62,9 +62,9 @@ module _ (r : ℕ) (whole : whole_bytes r ≡ true) where
       go false e false f false g i = absurd (false≢true i)
 
   -- but for type 5, which IN declares with resolution 24 and LO does not (M-104)
-  both-declare : (type : ℕ) → type ≢ 5 → Both (sensor_asked (declared_by LO type r)) (sensor_asked (declared_by IN type r))
+  both_declare : (type : ℕ) → type ≢ 5 → Both (sensor_asked (declared_by LO type r)) (sensor_asked (declared_by IN type r))
   unfolding declared_by in_declares lo_declares
-  both-declare type other = rw (not-two, ne_eqb type 5 other) (go (eqb type 3) (eqb type 4 && light_has r))
+  both_declare type other = rw (not_two, ne_eqb type 5 other) (go (eqb type 3) (eqb type 4 && light_has r))
     where
       go : (a b : Bool)
           → Both (sensor_asked (cond b (One (LightOf2017 r)) Nothing)) (sensor_asked (cond (a && false) (One Occupancy) (cond b (One (Light r)) Nothing)))
@@ -80,9 +80,9 @@ module _ (r : ℕ) (whole : whole_bytes r ≡ true) where
     abbrev in' : List ℕ
     in' = declaration IN i type r ++ zs
 
-    both-asked : Both (asked lo m) (asked in' m)
+    both_asked : Both (asked lo m) (asked in' m)
     unfolding declare_asked
-    both-asked =
+    both_asked =
         rw (declaring_asked lo m (inr (inl (omega arith, refl))), declaring_asked in' m (inl (omega arith, refl)))
         (go (ltb (length lo) (mark_size Declaration)) (m.running || not (eqb i m.declared)) (ltb i 16))
       where
@@ -92,11 +92,11 @@ module _ (r : ℕ) (whole : whole_bytes r ≡ true) where
             (cond a (Refused Cut) (cond b (Refused LateOrSkipped) (cond c (sensor_asked (declared_by IN type r)) (Refused NoSuchSensor))))
         go true b c = refuse Cut
         go false true c = refuse LateOrSkipped
-        go false false true = both-declare type other
+        go false false true = both_declare type other
         go false false false = refuse NoSuchSensor
 
     pub first_same : AllInRange m.instances → (room : ℕ) → Same (session m lo room) (session m in' room)
-    first_same range room = go both-asked refl refl
+    first_same range room = go both_asked refl refl
       where
         alike : Alike m m
         alike = record { same = refl; range = range; range' = range }

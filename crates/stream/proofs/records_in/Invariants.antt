@@ -1,0 +1,11 @@
+-- `stream::records_in` meets its contract: the records that end at `at` are records_in, and the rest from there.
+-- Assumes nothing.
+use Rattle.std.proofs.Common.{◌-◌, length, arith, rules}
+use Rattle.stream.proofs.Records.{Counting, counting_done, counting_more, counting_start}
+use Rattle.stream.proofs.records_in.Given as goal
+
+abbrev pub invariant-loop-at : goal.invariant-loop-at
+invariant-loop-at l = Counting l.bytes l.at l.n
+
+abbrev pub decreases-loop-at : goal.decreases-loop-at
+decreases-loop-at l = length l.bytes - l.at
