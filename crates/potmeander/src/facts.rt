@@ -1,28 +1,20 @@
 // What the sheets say of a session beside the table of its log, as a row of decimal numbers on descriptor 3: how many instances are declared, the tick that
 // was reached, by which number a record was refused and where, whether a read failed, and of each instance its type, its resolution and whether it is of the
 // sensor's other make (M-100, M-106, M-107).
+use crate::descriptor::third;
 use crate::reading::{Came, Ran};
 use crate::saying::refused_by;
 use device::Model;
 use itoa::Buffer;
 use sensor::{Basis, Kind, Light};
-use std::fs::OpenOptions;
-use std::io;
 use std::io::Write;
 use std::rt::Files;
 
-const FACTS: &str = "/dev/fd/3";
-
 // Where the descriptor is not open there is no row, and nobody is told.
 pub fn write(files: &impl Files, r: Ran) {
-    if let Ok(mut to) = opened(files) {
+    if let Ok(mut to) = third(files) {
         row(&mut to, r);
     }
-}
-
-// Behind what is there: a file is not cut short.
-fn opened<F: Files>(files: &F) -> io::Result<F::File> {
-    OpenOptions::new().append(true).open(files, FACTS)
 }
 
 fn row<W: Write>(to: &mut W, r: Ran) {

@@ -3,6 +3,7 @@
 // table is in use, and what its sheets say of the session goes to descriptor 3 (M-106).
 #![tactic(auto)]
 
+mod descriptor;
 mod facts;
 mod reading;
 mod saying;
