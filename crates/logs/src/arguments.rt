@@ -41,7 +41,7 @@ fn number_in(text: &[u8]) -> u64 {
 }
 
 // What nobody says stays as it is: no number is twenty digits long.
-pub fn with_digit(n: u64, glyph: u8) -> u64 {
+fn with_digit(n: u64, glyph: u8) -> u64 {
     if n < 1000000000000000000 {
         return n * 10 + digit(glyph);
     }

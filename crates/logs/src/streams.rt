@@ -1,7 +1,6 @@
 // What the logs are read from: standard input, and the descriptors 3 and 4 that the launcher opened, by the names that the system has for them.
-use crate::arguments::with_digit;
 use std::fs::{File, OpenOptions};
-use std::io::{Read, Seek, SeekFrom, Stderr, Stdin, Stdout};
+use std::io::{ErrorKind, Read, Seek, SeekFrom, Stderr, Stdin, Stdout};
 use std::os::unix::fs::FileTypeExt;
 use std::rt::Files;
 use std::{fs, io};
@@ -26,7 +25,7 @@ impl Read for Stream {
         match self {
             Stream::Input(input) => input.read(room),
             Stream::Opened(file) => file.read(room),
-            Stream::Missing => Err(io::Error::from(io::ErrorKind::NotFound)),
+            Stream::Missing => Err(io::Error::from(ErrorKind::NotFound)),
         }
     }
 }
@@ -58,8 +57,13 @@ fn named<F: Files<File = File>>(files: &F, is_there: bool, name: &str, state: &s
     }
 }
 
-// By its name it is opened a second time: a file from where the descriptor stands in it, a pipe also where its last writer is gone.
+// By its name it is opened a second time: a file from where the descriptor stands in it, a pipe also where its last writer is gone. It fails where it is open
+// only to be written.
 fn opened<F: Files<File = File>>(files: &F, name: &str, state: &str) -> io::Result<File> {
+    let state = asked(files, state)?;
+    if state.flags & ACCESS == WRITES {
+        return Err(io::Error::from(ErrorKind::PermissionDenied));
+    }
     let kind = fs::metadata(files, name)?.file_type();
     let writer = if kind.is_fifo() {
         held(files, name)
@@ -69,7 +73,7 @@ fn opened<F: Files<File = File>>(files: &F, name: &str, state: &str) -> io::Resu
     let mut file = File::open(files, name)?;
     drop(writer);
     if kind.is_file() {
-        file.seek(SeekFrom::Start(place(files, state)?))?;
+        file.seek(SeekFrom::Start(state.place))?;
     }
     Ok(file)
 }
@@ -83,23 +87,57 @@ fn held<F: Files<File = File>>(files: &F, name: &str) -> Option<File> {
         .ok()
 }
 
-// Where the descriptor stands: so the first line of what the system says of it.
-fn place<F: Files<File = File>>(files: &F, state: &str) -> io::Result<u64> {
-    let mut text = [0u8; 64];
-    let count = File::open(files, state)?.read(&mut text)?;
-    Ok(number_of(&text[0..count]))
+// Of the flags that a descriptor is opened with those of the access, and what they are where it is only written.
+const ACCESS: u64 = 0o3;
+
+const WRITES: u64 = 0o1;
+
+// Where a descriptor stands in a file, and its flags.
+#[derive(Clone, Copy)]
+struct State {
+    place: u64,
+    flags: u64,
 }
 
-// The digits of the first line.
-fn number_of(text: &[u8]) -> u64 {
-    let mut n = 0;
+fn asked<F: Files<File = File>>(files: &F, name: &str) -> io::Result<State> {
+    let mut text = [0u8; 64];
+    let count = File::open(files, name)?.read(&mut text)?;
+    Ok(state_of(&text[0..count]))
+}
+
+// The first line has the place, in decimal digits, and the second the flags, in octal ones.
+fn state_of(text: &[u8]) -> State {
+    let mut state = State { place: 0, flags: 0 };
+    let mut line = 0u8;
     for glyph in text {
         if *glyph == b'\n' {
-            return n;
-        }
-        if glyph.is_ascii_digit() {
-            n = with_digit(n, *glyph);
+            line = next(line);
+        } else if glyph.is_ascii_digit() {
+            state = with_digit(state, line, (*glyph - b'0') as u64);
         }
     }
-    n
+    state
+}
+
+fn next(line: u8) -> u8 {
+    if line < 2 { line + 1 } else { line }
+}
+
+fn with_digit(state: State, line: u8, digit: u64) -> State {
+    match line {
+        0 => State {
+            place: behind(state.place, 10, digit),
+            ..state
+        },
+        1 => State {
+            flags: behind(state.flags, 8, digit),
+            ..state
+        },
+        _ => state,
+    }
+}
+
+// No number is so long that it does not fit.
+fn behind(n: u64, base: u64, digit: u64) -> u64 {
+    n.wrapping_mul(base).wrapping_add(digit)
 }
