@@ -30,6 +30,11 @@ impl Read for Stream {
     }
 }
 
+// Of the flags that a descriptor is opened with those of the access, and what they are where it is only written.
+const ACCESS: u64 = 0o3;
+
+const WRITES: u64 = 0o1;
+
 const THIRD: &str = "/proc/self/fd/3";
 
 const FOURTH: &str = "/proc/self/fd/4";
@@ -86,11 +91,6 @@ fn held<F: Files<File = File>>(files: &F, name: &str) -> Option<File> {
         .open(files, name)
         .ok()
 }
-
-// Of the flags that a descriptor is opened with those of the access, and what they are where it is only written.
-const ACCESS: u64 = 0o3;
-
-const WRITES: u64 = 0o1;
 
 // Where a descriptor stands in a file, and its flags.
 #[derive(Clone, Copy)]
