@@ -16,7 +16,7 @@ mod streams;
 mod tabling;
 mod words;
 
-use streams::{Outputs, Stream, third_and_fourth};
+use streams::{Outputs, Stream, pair};
 
 fn main(rt: HostRuntime) {
     let mut device = [0u8; 65536];
@@ -30,13 +30,13 @@ fn main(rt: HostRuntime) {
     if count < 2 {
         showing::run(&mut input, to, &mut device);
     } else if count == 2 {
-        let (mut third, mut fourth) = third_and_fourth(&rt);
-        let laid = comparing::run(&mut third, &mut fourth, &mut device, &mut model);
+        let (mut of_device, mut of_model) = pair(&rt, comparing::DEVICE, comparing::MODEL);
+        let laid = comparing::run(&mut of_device, &mut of_model, &mut device, &mut model);
         saying::say(to, laid);
     } else if count == 3 {
         let hour = arguments::argument(&rt, 2);
-        let (mut third, mut fourth) = third_and_fourth(&rt);
-        parting::part(hour, &mut third, &mut fourth, to, &mut device);
+        let (mut judged, mut copied) = pair(&rt, parting::JUDGED, parting::COPIED);
+        parting::part(hour, &mut judged, &mut copied, to, &mut device);
     } else {
         let asked = tabling::asked_by(&rt, count);
         tabling::print(&rt, asked, &mut input, to, &mut device);

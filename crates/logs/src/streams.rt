@@ -35,28 +35,54 @@ const ACCESS: u64 = 0o3;
 
 const WRITES: u64 = 0o1;
 
-const THIRD: &str = "/proc/self/fd/3";
+// What the system calls a descriptor, and what says where it stands.
+#[derive(Clone, Copy)]
+struct Names {
+    file: &'static str,
+    state: &'static str,
+}
 
-const FOURTH: &str = "/proc/self/fd/4";
+fn names_of(descriptor: i32) -> Option<Names> {
+    match descriptor {
+        3 => Some(Names {
+            file: "/proc/self/fd/3",
+            state: "/proc/self/fdinfo/3",
+        }),
+        4 => Some(Names {
+            file: "/proc/self/fd/4",
+            state: "/proc/self/fdinfo/4",
+        }),
+        _ => None,
+    }
+}
 
 // Both at once: a file that is opened takes the lowest number that is free, and must not be found by it.
-pub fn third_and_fourth<F: Files<File = File>>(files: &F) -> (Stream, Stream) {
-    let has_third = is_there(files, THIRD);
-    let has_fourth = is_there(files, FOURTH);
-    let third = named(files, has_third, THIRD, "/proc/self/fdinfo/3");
-    let fourth = named(files, has_fourth, FOURTH, "/proc/self/fdinfo/4");
-    (third, fourth)
+pub fn pair<F: Files<File = File>>(files: &F, first: i32, second: i32) -> (Stream, Stream) {
+    let names = there(files, first);
+    let others = there(files, second);
+    let one = named(files, names);
+    let other = named(files, others);
+    (one, other)
 }
 
-fn is_there(files: &impl Files, name: &str) -> bool {
-    fs::metadata(files, name).is_ok()
-}
-
-fn named<F: Files<File = File>>(files: &F, is_there: bool, name: &str, state: &str) -> Stream {
-    if !is_there {
-        return Stream::Missing;
+fn there(files: &impl Files, descriptor: i32) -> Option<Names> {
+    let names = names_of(descriptor)?;
+    if fs::metadata(files, names.file).is_ok() {
+        Some(names)
+    } else {
+        None
     }
-    match opened(files, name, state) {
+}
+
+fn named<F: Files<File = File>>(files: &F, names: Option<Names>) -> Stream {
+    match names {
+        Some(names) => stream_of(opened(files, names.file, names.state)),
+        None => Stream::Missing,
+    }
+}
+
+fn stream_of(opened: io::Result<File>) -> Stream {
+    match opened {
         Ok(file) => Stream::Opened(file),
         Err(_) => Stream::Missing,
     }
