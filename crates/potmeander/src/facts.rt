@@ -1,33 +1,24 @@
 // What the sheets say of a session beside the table of its log, as a row of decimal numbers on descriptor 3: how many instances are declared, the tick that
 // was reached, by which number a record was refused and where, whether a read failed, and of each instance its type, its resolution and whether it is of the
 // sensor's other make (M-100, M-106, M-107).
-use crate::descriptor::third;
 use crate::reading::{Came, Ran};
 use crate::saying::refused_by;
 use device::Model;
-use itoa::Buffer;
 use sensor::{Basis, Kind, Light};
-use std::io::Write;
-use std::rt::Files;
 
-// Where the descriptor is not open there is no row, and nobody is told.
-pub fn write(files: &impl Files, r: Ran) {
-    if let Ok(mut to) = third(files) {
-        row(&mut to, r);
-    }
-}
+const FACTS: i32 = 3;
 
-fn row<W: Write>(to: &mut W, r: Ran) {
+pub fn write(r: Ran) {
     let p = r.progress;
     let model = p.model;
     let came = r.came;
-    number(to, model.declared as u64);
-    number(to, model.tick as u64);
-    number(to, refused_by(r) as u64);
-    number(to, p.passed);
-    number(to, failed(came));
-    types(to, model);
-    let _ = to.write_all(b"\n");
+    number(model.declared as u64);
+    number(model.tick as u64);
+    number(refused_by(r) as u64);
+    number(p.passed);
+    number(failed(came));
+    types(model);
+    io::write_all(FACTS, b"\n");
 }
 
 fn failed(came: Came) -> u64 {
@@ -39,14 +30,14 @@ fn failed(came: Came) -> u64 {
 }
 
 // Of all sixteen places: the sheets ask for those that are declared.
-fn types<W: Write>(to: &mut W, model: Model) {
+fn types(model: Model) {
     let mut i: usize = 0;
     while i < 16 {
         let x = model.instances[i];
         let kind = x.kind;
-        number(to, kind.sensor_type() as u64);
-        number(to, kind.resolution() as u64);
-        number(to, other_make(kind));
+        number(kind.sensor_type() as u64);
+        number(kind.resolution() as u64);
+        number(other_make(kind));
         i += 1;
     }
 }
@@ -69,8 +60,7 @@ fn padded(light: Light) -> u64 {
     }
 }
 
-fn number<W: Write>(to: &mut W, n: u64) {
-    let mut digits = Buffer::new();
-    let _ = to.write_all(digits.format(n).as_bytes());
-    let _ = to.write_all(b" ");
+fn number(n: u64) {
+    io::print_decimal(FACTS, n);
+    io::write_all(FACTS, b" ");
 }

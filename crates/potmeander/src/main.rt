@@ -3,7 +3,6 @@
 // table is in use, and what its sheets say of the session goes to descriptor 3 (M-106).
 #![tactic(auto)]
 
-mod descriptor;
 mod facts;
 mod reading;
 mod saying;
@@ -17,7 +16,7 @@ fn main(rt: HostRuntime) {
     let to = rt.stdout();
     if has_word(&rt) {
         let r = reading::run(from, to, tabled::in_use(), &mut input, &mut output);
-        facts::write(&rt, r);
+        facts::write(r);
         saying::say(rt.stderr(), r);
     } else {
         let r = reading::run(from, to, device::fresh(), &mut input, &mut output);
