@@ -14,25 +14,29 @@ c_object "$built/second3.o" tests/second/second.c -O3
 c_object "$built/cost.o" bench/cost.c -Itests -O3
 c_program "$built/cost" "$built/cost.o" "$built/second3.o" target/staticlib/libsession.a target/staticlib/libtabled.a
 
-# Of the library C can call a session and no widening by itself: for that a repository of crate widen and of one that exports it.
-alone=$built/alone
-rm -rf "$alone"
-mkdir -p "$alone/crates/alone/src"
-cp -R crates/promise crates/widen "$alone/crates"
-printf 'promise:\nwiden: promise\nalone: widen promise\n' >"$alone/crates.txt"
-cat >"$alone/crates/alone/src/lib.rt" <<'end'
-ghost use Prim.Native.Nat.{min};
-ghost use Rattle·widen.specs.Width.{widened};
-ghost use mathlib.Core.Path.{_≡_};
+# Of the library C can call a session and no widening by itself: for that a repository of crate widen and of one that exports it. It lies outside of this
+# one, whose gate refuses such files.
+alone=$(mktemp -d)
+trap 'rm -rf "$alone"' EXIT
+trap 'exit 1' INT TERM HUP
+c_sources cp --parents -t "$alone" {} +
+mkdir -p "$alone/crates/alone_c/src"
+printf 'promise:\nwiden: promise\nalone_c staticlib: widen promise\n' >"$alone/crates.txt"
+cat >"$alone/crates/alone_c/src/lib.rt" <<'end'
+#![tactic(auto)]
 
-#[no_mangle]
+ghost use Rattle.std.specs.Prelude.{min, ◌≡◌};
+ghost use Rattle.widen.specs.Width.{widened};
+
+#[unsafe(no_mangle)]
 pub extern "C" fn library_widened(value: u32, resolution: u8, wide: u8) -> u32
-    ensures { λ r. ⌜ r ≡ widened value resolution (min wide 32) ⌝ }
+    ensures { result ≡ widened value resolution (min wide 32) }
 {
     widen::widened(value, resolution, wide)
 }
 end
-(mkdir "$alone/target" && cd "$alone" && c_library alone)
+archiving=$PWD/.ci/archive
+(cd "$alone" && "$archiving" alone)
 c_object "$built/widening.o" bench/widening.c -Itests -O3
 c_program "$built/widening" "$built/widening.o" "$alone/target/staticlib/libalone.a"
 

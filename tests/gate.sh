@@ -7,7 +7,7 @@ trap 'rm -rf "$scratch"' EXIT
 mkdir -p "$scratch/.ci" "$scratch/tests" "$scratch/bin"
 cp .ci/run "$scratch/.ci/run"
 echo 'test one.sh' >"$scratch/tests/claims.txt"
-for tool in bash sh cat dirname mktemp rm tail tee; do
+for tool in bash sh cat cp dirname grep mkdir mktemp rm tail tee; do
     ln -s "$(command -v "$tool")" "$scratch/bin/$tool"
 done
 
@@ -22,9 +22,11 @@ expect() {
     fi
 }
 
-# rt_says STATUS LAST_LINE
+# rt_says STATUS LAST_LINE [EDITS]: where all passed, the line before says so
 rt_says() {
-    printf '#!/bin/sh\necho working\necho "%s"\nexit %s\n' "$2" "$1" >"$scratch/bin/rt"
+    ok=
+    [ "$1" -ne 0 ] || ok="echo 'rt: ok; handles allowed: none${3-; must-fail edits: 5 refused}; every proof and must-fail edit was done in this run'"
+    printf '#!/bin/sh\necho working\n%s\necho "%s"\nexit %s\n' "$ok" "$2" "$1" >"$scratch/bin/rt"
     chmod +x "$scratch/bin/rt"
 }
 
@@ -38,6 +40,10 @@ rt_says 1 '2 passed, 1 failed' && expect 1 '2 passed, 2 failed'  # a broken proo
 rt_says 1 '3 passed, 0 failed' && expect 1 '3 passed, 2 failed'  # a status that the count hides
 rt_says 0 '0 passed, 0 failed' && expect 1 '1 passed, 1 failed'  # nothing was proved
 rt_says 2 'rt: bad crates.txt' && expect 1 '0 passed, 2 failed'  # no count at all
+rt_says 0 '3 passed, 0 failed' '; must-fail edits: 4 refused, 1 of them only by a limit' && expect 0 '4 passed, 0 failed'
+rt_says 0 '3 passed, 0 failed' '; must-fail edits: 4 refused, 2 bad' && expect 1 '4 passed, 2 failed'  # edits that cannot be tried
+rt_says 0 '3 passed, 0 failed' '; must-fail edits: 14 refused, 2 of them only by a limit, 10 bad' && expect 1 '4 passed, 10 failed'
+printf '#!/bin/sh\necho "3 passed, 0 failed"\n' >"$scratch/bin/rt" && expect 1 '4 passed, 1 failed'  # a count, and no word that all is well
 rm "$scratch/bin/rt" && expect 1 '0 passed, 2 failed'            # no rt
 test_says 1
 rt_says 0 '3 passed, 0 failed' && expect 1 '3 passed, 1 failed'  # a failing test
@@ -45,4 +51,4 @@ rm "$scratch/tests/one.sh" && expect 1 '3 passed, 2 failed'      # no test, and 
 test_says 0
 echo 'test two.sh' >>"$scratch/tests/claims.txt" && expect 1 '4 passed, 1 failed'  # a test that was taken away
 rm "$scratch/tests/claims.txt" && expect 1 '4 passed, 1 failed'  # no list of tests
-echo "the gate fails where it must, in 9 ways"
+echo "the gate fails where it must, in 12 ways"

@@ -4,7 +4,7 @@
 set -eu
 cd "$(dirname "$0")/.."
 . tests/lib/build.sh
-rt check potmeander logs >target/program.log || { cat target/program.log >&2; exit 1; }
+c_programs
 for tool in terminal odd; do
     c_object "$built/$tool.o" "tests/lib/$tool.c"
     c_program "$built/$tool" "$built/$tool.o"
@@ -14,8 +14,8 @@ export TMPDIR="$room/tmp"
 mkdir "$TMPDIR"
 
 # Kits, to be given by RATTLE_HOME: one that proves; one that fails, though it leaves a program; one that makes another program; one that is slow
-kit_with 'echo "rt: promise proved (0 s)"' "$(into_place target/bin/potmeander)" && proving=$kit
-kit_with 'echo "rt: sensor NOT PROVED (exit 1, 0 s)"' "$(into_place target/bin/potmeander)" 'exit 1' && failing=$kit
+kit_with 'echo "rt: promise proved"' "$(into_place target/bin/potmeander)" && proving=$kit
+kit_with 'echo "rt: sensor NOT PROVED"' "$(into_place target/bin/potmeander)" 'exit 1' && failing=$kit
 kit_with "$(into_place "$built/odd")" && odd=$kit
 kit_with 'mktemp >/dev/null' "while sleep 0.1 && echo >>'$room/proving'; do :; done" && slow=$kit
 
@@ -52,7 +52,10 @@ export RATTLE_HOME="$proving"
 expect 0 'the session was taken whole, and its log was written whole' --help
 expect 0 'potmeander, not proved and built yet' --version
 expect 0 'commit  not known' --version
-expect 0 "sources sha256 $(cd "$clone" && find crates.txt crates -type f -exec sha256sum {} + | LC_ALL=C sort -k 2 | sha256sum | cut -d ' ' -f 1)" --version
+# what a check leaves beside a crate is no source
+mkdir "$clone/crates/widen/out"
+echo left >"$clone/crates/widen/out/left.antt"
+expect 0 "sources sha256 $(c_sources sha256sum {} + | LC_ALL=C sort -k 2 | sha256sum | cut -d ' ' -f 1)" --version
 expect 0 "kit     $(rt version)" --version
 expect 2 'not a call: session.bin' session.bin
 expect 2 'not a call: --help me' --help me
@@ -96,8 +99,9 @@ expect 0 "$said"
 path=$PATH
 [ "$(cat "$room/said")" = "$said" ] || fail "a built program: $(cat "$room/said")"
 expect 0 'potmeander, proved and built' --version
-# nothing that the gate meets: it removes target/, and takes each source outside of crates/ for one that is not proved
+# nothing that the gate meets: target/ and what a check leaves are its own, and it takes each source outside of crates/ for one that is not proved
 [ ! -e "$clone/target" ] || fail 'target/ is the gate'\''s'
+[ "$(echo "$clone"/crates/*/out)" = "$clone/crates/widen/out" ] || fail 'something is left beside a crate'
 [ -z "$(find "$clone/build" -name '*.rt' -o -name '*.antt')" ] || fail 'sources are left in build/'
 
 # ---- by what the sources are, and the kit: a change is proved whatever its date, and what is proved is not proved again

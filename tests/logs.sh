@@ -12,7 +12,7 @@ for source in lib/laid lib/pairs lib/whole lib/feeder second/compared; do
 done
 c_program "$built/laid" "$built/laid.o" "$built/pairs.o" "$built/compared.o"
 c_program "$built/feeder" "$built/feeder.o" "$built/whole.o"
-rt check potmeander logs >target/logs.log || { cat target/logs.log >&2; exit 1; }
+c_programs
 . tests/lib/clone.sh
 kit_with "$(into_place target/bin/potmeander)"
 export RATTLE_HOME="$kit"

@@ -15,13 +15,13 @@ c_program "$built/one_call" "$built/one_call.o" "$built/second.o" "$built/whole.
 c_program "$built/feeder" "$built/feeder.o" "$built/whole.o"
 c_program "$built/big_session" "$built/big_session.o" "$built/whole.o"
 
-rt check potmeander logs >target/program.log || { cat target/program.log >&2; exit 1; }
+c_programs
 . tests/lib/clone.sh
 
-# ---- two at once, two seconds apart: one proves and builds, the other waits. What is proved is the program; the crates below it, and the other
-# program, are as `rt check` left them
-kit_with "export RATTLE_HOME='$c_kit'" 'mkdir -p target/bin' "ln -s '$PWD/target/rlib' target/rlib" "cp -R '$PWD/target/stamp' target/stamp" \
-    'rm target/stamp/potmeander' "cp '$PWD/target/bin/logs' target/bin" 'exec "$RATTLE_HOME/bin/rt" "$@"'
+# ---- two at once, two seconds apart: one proves and builds, the other waits. What is proved is the program, since a comment in it is new; the crates
+# below it, and the other program, are as `rt ci` has kept them
+sed '1s/^/\/\/ Once more.\n/' crates/potmeander/src/saying.rt >"$clone/crates/potmeander/src/saying.rt"
+kit_with 'sleep 3' "exec '$c_kit/bin/rt' \"\$@\""
 export RATTLE_HOME="$kit"
 potmeander=$clone/potmeander
 "$potmeander" <examples/full.session >"$room/one.log" 2>"$room/one.said" &

@@ -4,7 +4,7 @@
 set -eu
 cd "$(dirname "$0")/.."
 . tests/lib/build.sh
-rt check potmeander logs >target/sheets.log || { cat target/sheets.log >&2; exit 1; }
+c_programs
 . tests/lib/clone.sh
 . examples/records.sh
 kit_with "$(into_place target/bin/potmeander)"

@@ -2,7 +2,7 @@
 #   room               a temporary folder, removed at the end
 #   clone              the clone in it; clone/potmeander is the launcher
 #   kit_with LINE...   a kit, in $kit, whose `rt` is these lines of sh and whose other parts are the kit's
-#   into_place MODEL   such a line: what it builds is MODEL, and for the other program target/bin/logs
+#   into_place MODEL   such a line: what it builds is MODEL, and for the other program target/bin/logs, which build.sh's c_programs has made
 #   fail WORDS         ends the test
 
 room=$(mktemp -d)
@@ -11,14 +11,18 @@ trap 'rm -rf "$room"' EXIT
 trap 'exit 1' INT TERM HUP
 clone=$room/clone
 mkdir "$clone"
-cp -R potmeander .ci crates crates.txt "$clone"
+cp -R potmeander .ci "$clone"
+c_sources cp --parents -t "$clone" {} +
 
 fail() {
     echo "$*" >&2
     exit 1
 }
 
-into_place() { printf 'mkdir -p target/bin && cp %s target/bin/potmeander && cp %s target/bin/logs' "'$PWD/$1'" "'$PWD/target/bin/logs'"; }
+into_place() {
+    printf 'mkdir -p crates/potmeander/out crates/logs/out && cp %s crates/potmeander/out/potmeander && cp %s crates/logs/out/logs' \
+        "'$PWD/$1'" "'$PWD/target/bin/logs'"
+}
 
 kit_with() {
     kit=$(mktemp -d "$room/kit.XXXXXX")

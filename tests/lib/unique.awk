@@ -1,6 +1,6 @@
 # Holds the entries of each crate's Unique.antt to the functions that the crate exports, both ways, and prints a line for what is wrong:
 #   awk -f unique.awk EXPORTED UNIQUE..     EXPORTED: `CRATE PATH LENT` of each; UNIQUE: crates/CRATE/proofs/Unique.antt
-# An entry `pub NAME-unique : Unique .. X.Post` (UniqueLent; UniqueBehind of one that hands back a reference; UniqueWalked X.ended of one that
+# An entry `pub NAME_unique : Unique .. X.Post` (UniqueLent; UniqueBehind of one that hands back a reference; UniqueWalked X.ended of one that
 # is walked by hand) is of the function that a `use` line brings as X, whatever NAME says; what is lent it picks by as many `.now`. What
 # `Unique` says is in crate promise, and nowhere else.
 
@@ -30,20 +30,20 @@ function entry(name, statement,   word, f) {
 # A declaration goes on over the lines that are set in.
 function declared(   name, names) {
     name = text
-    if (text ~ /^use Rattle[^A-Za-z]+[a-z_0-9]+([^A-Za-z.]+proofs)?[.]proofs[.]/) {
+    if (text ~ /^use Rattle[.][a-z_0-9]+[.](proofs|specs[.]contracts)[.]/) {
         # what has no `as` is brought by its last name
         if (!sub(/^.* as /, "", name))
             sub(/^.*[.]/, "", name)
-        sub(/^use Rattle[^A-Za-z]+/, "", text)
+        sub(/^use Rattle[.]/, "", text)
         sub(/([.]Reads)?( as .*)?$/, "", text)
-        sub(/([^A-Za-z.]+proofs)?[.]proofs[.]/, " ", text)
+        sub(/[.](proofs|specs[.]contracts)[.]/, " ", text)
         brought[name] = text
-    } else if (sub(/^use Rattle[^A-Za-z]+promise[.]specs[.]Unique[.][{]/, "", text)) {
+    } else if (sub(/^use Rattle[.]promise[.]specs[.]Unique[.][{]/, "", text)) {
         sub(/[}].*/, "", text)
         split(text, names, /, */)
         for (name in names)
             given[names[name]] = 1
-    } else if (text ~ /^pub [^ ]+-unique :/) {
+    } else if (text ~ /^pub [^ ]+_unique :/) {
         sub(/^pub /, "", name)
         sub(/ :.*/, "", name)
         sub(/^[^:]*: */, "", text)

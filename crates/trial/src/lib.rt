@@ -12,8 +12,7 @@ ghost use Rattle.std.specs.Prelude.{length, ◌≡◌};
 use device::Model;
 use session::Reading;
 
-#[unsafe(no_mangle)]
-pub extern "C" fn trial_session(tick: u32, before: &[u8], input: &[u8], log: &mut [u8]) -> Reading
+pub fn trial_session(tick: u32, before: &[u8], input: &[u8], log: &mut [u8]) -> Reading
     ensures { (result ≡ for_c (session (first tick before.now (length log.old)).model input.now (length log.old))) × (log.new ≡ put 0 (bytes_of (session (first tick before.now (length log.old)).model input.now (length log.old)).log) (put 0 (bytes_of (first tick before.now (length log.old)).log) log.old)) }
 {
     let fresh = device::fresh();
