@@ -1,6 +1,6 @@
 -- A TK shortened to the ticks that remain, and what is kept of a buffer.
 -- Assumes nothing.
-use Rattle.std.proofs.Common.{◌≡◌, ℕ, ◌-◌, ◌≤◌, Bool, true, false, cond, eqb, ltb, List, [], ◌++◌, length, take, drop, sym, refl, ap, ◌∙◌, arith, length-drop, le-ltb, lt-ltb, ne_eqb}
+use Rattle.std.proofs.Common.{◌≡◌, ℕ, ◌-◌, ◌≤◌, Bool, true, false, cond, eqb, ltb, List, ◌++◌, length, take, drop, sym, refl, ap, ◌∙◌, arith, length-drop, le-ltb, lt-ltb, ne_eqb}
 use Rattle.record.proofs.Laws.{put_front}
 use Rattle.record.specs.Marks.{mark_size, ticks}
 use Rattle.record.specs.Numbers.{word}

@@ -1,7 +1,6 @@
 -- `command::acted` meets its contract.
 -- Assumes nothing.
 use Rattle.command.specs.Answering.{acted, acted_by}
-use borrow.Author.Rules.{rules}
 use Rattle.command.proofs.acted.Goals as goal
 
 pub returns-in-Set : goal.returns-in-Set

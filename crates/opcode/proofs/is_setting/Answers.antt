@@ -1,7 +1,6 @@
 -- `opcode::is_setting` meets its contract.
 -- Assumes nothing.
 use Rattle.opcode.specs.Meaning.{is_setting}
-use borrow.Author.Rules.{rules}
 use mathlib.Core.Path.{ap, sym}
 use Rattle.opcode.proofs.is_setting.Goals as goal
 

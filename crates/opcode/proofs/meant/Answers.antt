@@ -1,7 +1,6 @@
 -- `opcode::meant` meets its contract.
 -- Assumes nothing.
 use Rattle.opcode.specs.Meaning.{meant}
-use borrow.Author.Rules.{rules}
 use Rattle.opcode.proofs.meant.Goals as goal
 
 pub returns-in-Light : goal.returns-in-Light

@@ -1,7 +1,6 @@
 -- `rgb::absolute_change` meets its contract.
 -- Assumes nothing.
 use Rattle.rgb.specs.Colour.{absolute_change}
-use borrow.Author.Rules.{rules}
 use Rattle.rgb.proofs.absolute_change.Goals as goal
 
 pub returns : goal.returns

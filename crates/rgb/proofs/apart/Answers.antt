@@ -1,7 +1,6 @@
 -- `rgb::apart` meets its contract: two bytes are less than 256 apart.
 -- Assumes nothing.
 use Rattle.rgb.specs.Colour.{apart}
-use borrow.Author.Rules.{rules}
 use borrow.Author.Tests.{le-ltb, lt-ltb}
 use native.Mathlib.Omega.{arith}
 use Rattle.rgb.proofs.apart.Goals as goal

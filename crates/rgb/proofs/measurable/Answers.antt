@@ -1,6 +1,5 @@
 -- `rgb::measurable` meets its contract.
 -- Assumes nothing.
-use borrow.Author.Rules.{rules}
 use Rattle.rgb.proofs.measurable.Goals as goal
 
 pub returns : goal.returns

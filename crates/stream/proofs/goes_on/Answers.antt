@@ -1,7 +1,6 @@
 -- `stream::goes_on` meets its contract.
 -- Assumes nothing.
 use Rattle.stream.specs.Stream.{goes_on}
-use Rattle.std.proofs.Common.{rules}
 use Rattle.stream.proofs.goes_on.Goals as goal
 
 pub returns-in-MoreInput : goal.returns-in-MoreInput

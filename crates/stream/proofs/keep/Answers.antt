@@ -1,7 +1,6 @@
 -- `stream::keep` meets its contract.
 -- Assumes nothing.
 use Rattle.stream.proofs.Moves.{kept}
-use Rattle.std.proofs.Common.{rules}
 use Rattle.stream.proofs.keep.Goals as goal
 
 pub returns : goal.returns

@@ -1,7 +1,7 @@
 -- `stream::records_in` meets its contract: the records that end at `at` are records_in, and the rest from there.
 -- Assumes nothing.
-use Rattle.std.proofs.Common.{◌-◌, length, arith, rules}
-use Rattle.stream.proofs.Records.{Counting, counting_done, counting_more, counting_start}
+use Rattle.std.proofs.Common.{arith}
+use Rattle.stream.proofs.Records.{counting_done, counting_more, counting_start}
 use Rattle.stream.proofs.records_in.Goals as goal
 
 pub loop-at-init : goal.loop-at-init

@@ -1,7 +1,7 @@
 -- `stream::records_in` meets its contract: the records that end at `at` are records_in, and the rest from there.
 -- Assumes nothing.
-use Rattle.std.proofs.Common.{◌-◌, length, arith, rules}
-use Rattle.stream.proofs.Records.{Counting, counting_done, counting_more, counting_start}
+use Rattle.std.proofs.Common.{◌-◌, length}
+use Rattle.stream.proofs.Records.{Counting}
 use Rattle.stream.proofs.records_in.Given as goal
 
 abbrev pub invariant-loop-at : goal.invariant-loop-at

@@ -2,7 +2,7 @@
 -- Assumes nothing.
 use Rattle.stream.proofs.Moves.{shortened}
 use Rattle.stream.specs.Stream.{remaining}
-use Rattle.std.proofs.Common.{arith, length-set, rules, lt-ltb, eq-eqb, ne_eqb}
+use Rattle.std.proofs.Common.{arith, length-set, lt-ltb, eq-eqb, ne_eqb}
 use Rattle.stream.proofs.shorten.Goals as goal
 
 pub returns-then-done-eq0 : goal.returns-then-done-eq0

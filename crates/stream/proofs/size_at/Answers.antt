@@ -1,7 +1,7 @@
 -- `stream::size_at` meets its contract.
 -- Assumes nothing.
 use Rattle.stream.specs.Stream.{size_at}
-use Rattle.std.proofs.Common.{rules, le-ltb, lt-ltb}
+use Rattle.std.proofs.Common.{le-ltb, lt-ltb}
 use Rattle.stream.proofs.size_at.Goals as goal
 
 pub returns-then-all-lt2 : goal.returns-then-all-lt2

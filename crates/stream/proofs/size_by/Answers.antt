@@ -1,7 +1,7 @@
 -- `stream::size_by` meets its contract.
 -- Assumes nothing.
 use Rattle.stream.specs.Stream.{size_by}
-use Rattle.std.proofs.Common.{sym, ◌∙◌, rules, eq-eqb, ne_eqb}
+use Rattle.std.proofs.Common.{sym, ◌∙◌, eq-eqb, ne_eqb}
 use Rattle.stream.proofs.size_by.Goals as goal
 
 pub returns-then-size-eq0 : goal.returns-then-size-eq0

@@ -2,7 +2,6 @@
 -- Assumes nothing.
 use Rattle.trial.proofs.Behind.{behind}
 use Rattle.trial.specs.Later.{first, later}
-use borrow.Author.Rules.{rules}
 use Rattle.trial.proofs.trial_session.Goals as goal
 
 pub returns : goal.returns

@@ -2,7 +2,6 @@
 -- Assumes nothing.
 use Prim.Native.Nat.{ℕ, ◌/◌, ◌%◌, ◌^◌, ◌≤◌}
 use Rattle.widen.proofs.Laws.{one_shl}
-use borrow.Author.Rules.{rules}
 use lib.Pow.{pow_mono, pow_pos}
 use mathlib.Core.Path.{sym, ap, ◌∙◌}
 use native.Mathlib.Nat.{div-eq_of_lt, div-le_self, lt_of_le_of_lt, lt_of_lt_of_le, mod-eq_of_lt, zero-mod}

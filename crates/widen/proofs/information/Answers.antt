@@ -1,7 +1,6 @@
 -- `widen::information` meets its contract: ten bits fit.
 -- Assumes nothing.
 use Rattle.widen.proofs.Laws.{under}
-use borrow.Author.Rules.{rules}
 use native.Mathlib.Omega.{arith}
 use Rattle.widen.proofs.information.Goals as goal
 

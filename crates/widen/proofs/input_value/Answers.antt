@@ -1,7 +1,6 @@
 -- `widen::input_value` meets its contract.
 -- Assumes nothing.
 use Rattle.widen.specs.Width.{widened}
-use borrow.Author.Rules.{rules}
 use mathlib.Core.Path.{ap, ◌∙◌}
 use native.Mathlib.Omega.{arith}
 use Rattle.widen.proofs.input_value.Goals as goal

@@ -2,7 +2,6 @@
 -- Assumes nothing.
 use Prim.Native.Nat.{ℕ, ◌*◌, ◌-◌, ◌^◌, ◌≤◌}
 use Rattle.widen.proofs.Laws.{one_shl}
-use borrow.Author.Rules.{rules}
 use lib.Pow.{pow_mono}
 use mathlib.Core.Path.{ap, ◌∙◌}
 use native.Mathlib.Omega.{arith}

@@ -1,11 +1,10 @@
 -- `widen::widened` meets its contract. The loop's invariant: `out` is the filling to the width `have`, which is a number of whole copies.
 -- Assumes nothing.
-use Prim.Native.Nat.{ℕ, ◌-◌, ◌%◌, ◌^◌, ◌≤◌, ◌<◌}
+use Prim.Native.Nat.{ℕ, ◌%◌, ◌^◌, ◌≤◌, ◌<◌}
 use Rattle.widen.proofs.Laws.{cut_off, still_whole, twice, twice_fits, whole}
 use Rattle.widen.specs.Width.{widened}
-use borrow.Author.Rules.{rules}
 use lib.Pow.{pow_mono, pow_pos}
-use mathlib.Core.Path.{◌≡◌, ap, ◌∙◌}
+use mathlib.Core.Path.{ap, ◌∙◌}
 use native.Mathlib.Nat.{div-one, mod-lt, mod_self}
 use native.Mathlib.Omega.{arith}
 use Rattle.widen.proofs.widened.Goals as goal

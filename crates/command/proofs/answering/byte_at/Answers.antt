@@ -1,7 +1,6 @@
 -- `command::answering::byte_at` meets its contract: a u32 has no byte past its fourth.
 -- Assumes nothing.
 use Rattle.command.specs.Answering.{byte_at}
-use borrow.Author.Rules.{rules}
 use native.Mathlib.Nat.{div-eq_of_lt, div-one, lt_of_lt_of_le, pow-le-pow_right}
 use native.Mathlib.Omega.{arith}
 use Rattle.command.proofs.answering.byte_at.Goals as goal

@@ -1,7 +1,6 @@
 -- `command::answering::counted_up` meets its contract.
 -- Assumes nothing.
 use Rattle.command.specs.Answering.{counted_up}
-use borrow.Author.Rules.{rules}
 use native.Mathlib.Omega.{arith}
 use Rattle.command.proofs.answering.counted_up.Goals as goal
 

@@ -1,7 +1,6 @@
 -- `command::answering::latched` meets its contract.
 -- Assumes nothing.
 use Rattle.command.specs.Answering.{latched}
-use borrow.Author.Rules.{rules}
 use borrow.Author.Tests.{eq-eqb, ne_eqb}
 use Rattle.command.proofs.answering.latched.Goals as goal
 

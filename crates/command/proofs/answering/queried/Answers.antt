@@ -1,7 +1,6 @@
 -- `command::answering::queried` meets its contract.
 -- Assumes nothing.
 use Rattle.command.specs.Answering.{colour_answer, queried}
-use borrow.Author.Rules.{rules}
 use Rattle.command.proofs.answering.queried.Goals as goal
 
 pub returns-in-QueryVariable : goal.returns-in-QueryVariable

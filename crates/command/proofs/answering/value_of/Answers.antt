@@ -1,7 +1,6 @@
 -- `command::answering::value_of` meets its contract.
 -- Assumes nothing.
 use Rattle.command.specs.Answering.{value_of}
-use borrow.Author.Rules.{rules}
 use Rattle.command.proofs.answering.value_of.Goals as goal
 
 pub returns-in-SensorType : goal.returns-in-SensorType

@@ -1,7 +1,6 @@
 -- `command::controlling::controlled` meets its contract.
 -- Assumes nothing.
 use Rattle.command.specs.Controlling.{controlled}
-use borrow.Author.Rules.{rules}
 use Rattle.command.proofs.controlling.controlled.Goals as goal
 
 pub returns : goal.returns

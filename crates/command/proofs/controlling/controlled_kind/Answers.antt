@@ -1,7 +1,6 @@
 -- `command::controlling::controlled_kind` meets its contract.
 -- Assumes nothing.
 use Rattle.command.specs.Controlling.{controlled_kind}
-use borrow.Author.Rules.{rules}
 use Rattle.command.proofs.controlling.controlled_kind.Goals as goal
 
 pub returns-in-CatchMovement : goal.returns-in-CatchMovement

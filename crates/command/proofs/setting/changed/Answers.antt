@@ -1,7 +1,6 @@
 -- `command::setting::changed` meets its contract.
 -- Assumes nothing.
 use Rattle.command.specs.Setting.{changed}
-use borrow.Author.Rules.{rules}
 use Rattle.command.proofs.setting.changed.Goals as goal
 
 pub returns-in-SetPriority : goal.returns-in-SetPriority

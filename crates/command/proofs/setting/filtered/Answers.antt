@@ -2,7 +2,6 @@
 -- Assumes nothing.
 use Rattle.command.proofs.Rest.{same_kind}
 use Rattle.command.specs.Setting.{filtered}
-use borrow.Author.Rules.{rules}
 use Rattle.command.proofs.setting.filtered.Goals as goal
 
 pub returns-in-Disable : goal.returns-in-Disable

@@ -1,7 +1,6 @@
 -- `command::setting::obeyed` meets its contract.
 -- Assumes nothing.
 use Rattle.command.specs.Setting.{obeyed}
-use borrow.Author.Rules.{rules}
 use Rattle.command.proofs.setting.obeyed.Goals as goal
 
 pub returns : goal.returns

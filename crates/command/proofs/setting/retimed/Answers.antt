@@ -2,7 +2,6 @@
 -- Assumes nothing.
 use Rattle.command.proofs.Rest.{same_timers}
 use Rattle.command.specs.Setting.{retimed}
-use borrow.Author.Rules.{rules}
 use Rattle.command.proofs.setting.retimed.Goals as goal
 
 pub returns-in-SetReport : goal.returns-in-SetReport

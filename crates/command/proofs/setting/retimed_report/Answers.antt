@@ -2,7 +2,6 @@
 -- Assumes nothing.
 use Rattle.command.proofs.Laws.{zero_stops}
 use Rattle.command.specs.Setting.{retimed_report}
-use borrow.Author.Rules.{rules}
 use borrow.Author.Tests.{ne_eqb}
 use mathlib.Core.Path.{sym}
 use Rattle.command.proofs.setting.retimed_report.Goals as goal

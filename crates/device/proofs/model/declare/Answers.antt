@@ -1,7 +1,6 @@
 -- `device::model::declare` meets its contract.
 -- Assumes nothing.
 use Rattle.device.specs.Device.{declared_model}
-use borrow.Author.Rules.{rules}
 use borrow.Author.Tests.{le-ltb, lt-ltb}
 use Rattle.device.proofs.model.declare.Goals as goal
 

@@ -1,7 +1,6 @@
 -- `device::model::fresh` meets its contract.
 -- Assumes nothing.
 use Rattle.device.specs.Device.{fresh}
-use borrow.Author.Rules.{rules}
 use Rattle.device.proofs.model.fresh.Goals as goal
 
 pub returns : goal.returns

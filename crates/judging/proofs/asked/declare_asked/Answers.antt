@@ -1,7 +1,6 @@
 -- `judging::asked::declare_asked` meets its contract.
 -- Assumes nothing.
 use Rattle.judging.specs.Asked.{declare_asked}
-use borrow.Author.Rules.{rules}
 use borrow.Author.Tests.{le-ltb, lt-ltb}
 use Rattle.judging.proofs.asked.declare_asked.Goals as goal
 

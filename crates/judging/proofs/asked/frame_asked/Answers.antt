@@ -1,7 +1,6 @@
 -- `judging::asked::frame_asked` meets its contract.
 -- Assumes nothing.
 use Rattle.judging.specs.Asked.{frame_asked}
-use borrow.Author.Rules.{rules}
 use borrow.Author.Tests.{le-ltb, lt-ltb}
 use Rattle.judging.proofs.asked.frame_asked.Goals as goal
 

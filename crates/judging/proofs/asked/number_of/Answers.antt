@@ -1,7 +1,6 @@
 -- `judging::asked::number_of` meets its contract.
 -- Assumes nothing.
 use Rattle.judging.specs.Refusals.{number_of}
-use borrow.Author.Rules.{rules}
 use Rattle.judging.proofs.asked.number_of.Goals as goal
 
 pub returns-in-UnknownMark : goal.returns-in-UnknownMark

@@ -1,7 +1,6 @@
 -- `judging::asked::record_asked` meets its contract.
 -- Assumes nothing.
 use Rattle.judging.specs.Asked.{asked, asked_by}
-use borrow.Author.Rules.{rules}
 use borrow.Author.Tests.{le-ltb, lt-ltb}
 use Rattle.judging.proofs.asked.record_asked.Goals as goal
 

@@ -3,7 +3,6 @@
 use Rattle.device.proofs.Laws.{known_below}
 use Rattle.device.specs.Device.{allowed, instance_at}
 use Rattle.judging.specs.Asked.{sample_asked}
-use borrow.Author.Rules.{rules}
 use borrow.Author.Tests.{le-ltb, lt-ltb}
 use mathlib.Core.Path.{sym, ◌∙◌}
 use native.Mathlib.Omega.{arith}

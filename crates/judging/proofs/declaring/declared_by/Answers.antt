@@ -1,7 +1,6 @@
 -- `judging::declaring::declared_by` meets its contract.
 -- Assumes nothing.
 use Rattle.judging.specs.Declaring.{declared_by}
-use borrow.Author.Rules.{rules}
 use borrow.Author.Tests.{ne_eqb}
 use Rattle.judging.proofs.declaring.declared_by.Goals as goal
 

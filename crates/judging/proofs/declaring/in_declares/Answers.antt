@@ -1,7 +1,6 @@
 -- `judging::declaring::in_declares` meets its contract.
 -- Assumes nothing.
 use Rattle.judging.specs.Declaring.{in_declares}
-use borrow.Author.Rules.{rules}
 use Rattle.judging.proofs.declaring.in_declares.Goals as goal
 
 pub returns-then-sensor_type-resolution : goal.returns-then-sensor_type-resolution

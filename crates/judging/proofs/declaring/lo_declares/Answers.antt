@@ -1,7 +1,6 @@
 -- `judging::declaring::lo_declares` meets its contract.
 -- Assumes nothing.
 use Rattle.judging.specs.Declaring.{lo_declares}
-use borrow.Author.Rules.{rules}
 use Rattle.judging.proofs.declaring.lo_declares.Goals as goal
 
 pub returns-then-sensor_type-light_has : goal.returns-then-sensor_type-light_has

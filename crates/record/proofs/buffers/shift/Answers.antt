@@ -1,10 +1,9 @@
 -- `record::buffers::shift` meets its contract: after i stores, i bytes are at the front.
 -- Assumes nothing.
-use Prim.Native.Nat.{ℕ, ◌+◌, ◌-◌, ◌≤◌}
+use Prim.Native.Nat.{ℕ, ◌+◌}
 use Rattle.record.specs.Put.{put}
-use Rattle.record.proofs.Moves.{moved, moves, moves_none}
-use borrow.Author.Rules.{rules}
-use lib.ListN.{get_or, length, length-set, set}
+use Rattle.record.proofs.Moves.{moves, moves_none}
+use lib.ListN.{get_or, length-set, set}
 use lib.Seq.{slice}
 use mathlib.Core.List.{List}
 use mathlib.Core.Path.{ap, refl, ◌≡◌, ◌∙◌}

@@ -1,14 +1,9 @@
 -- `record::buffers::shift` meets its contract: after i stores, i bytes are at the front.
 -- Assumes nothing.
-use Prim.Native.Nat.{ℕ, ◌+◌, ◌-◌, ◌≤◌}
-use Rattle.record.specs.Put.{put}
-use Rattle.record.proofs.Moves.{moved, moves, moves_none}
-use borrow.Author.Rules.{rules}
-use lib.ListN.{get_or, length, length-set, set}
-use lib.Seq.{slice}
-use mathlib.Core.List.{List}
-use mathlib.Core.Path.{ap, refl, ◌≡◌, ◌∙◌}
-use native.Mathlib.Omega.{arith}
+use Prim.Native.Nat.{◌-◌, ◌≤◌}
+use Rattle.record.proofs.Moves.{moved}
+use lib.ListN.{length}
+use mathlib.Core.Path.{◌≡◌}
 use Rattle.record.proofs.buffers.shift.Given as goal
 
 abbrev pub invariant-loop-i : goal.invariant-loop-i

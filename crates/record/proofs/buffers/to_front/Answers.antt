@@ -3,7 +3,6 @@
 use Prim.Native.Nat.{ℕ}
 use Rattle.record.proofs.Moves.{slice_none, slice_within}
 use Rattle.record.specs.Put.{put}
-use borrow.Author.Rules.{rules}
 use mathlib.Core.List.{List}
 use mathlib.Core.Path.{ap, ◌∙◌}
 use native.Mathlib.Omega.{arith}

@@ -2,7 +2,6 @@
 -- Assumes nothing.
 use Prim.Native.Nat.{ℕ, suc, zero, ◌≤◌}
 use Rattle.rgb.specs.Annex.{parameter, parameters}
-use borrow.Author.Rules.{rules}
 use lib.ListN.{get_or-eq_default}
 use mathlib.Core.Logic.{◌≢◌}
 use mathlib.Core.Path.{sym}

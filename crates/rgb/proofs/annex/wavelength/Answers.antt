@@ -1,7 +1,6 @@
 -- `rgb::annex::wavelength` meets its contract.
 -- Assumes nothing.
 use Rattle.rgb.specs.Annex.{wavelength}
-use borrow.Author.Rules.{rules}
 use borrow.Author.Tests.{le-leb, lt-leb}
 use Rattle.rgb.proofs.annex.wavelength.Goals as goal
 

@@ -1,7 +1,6 @@
 -- `sensor::instance::kind_after` meets its contract.
 -- Assumes nothing.
 use Rattle.sensor.specs.Tick.{kind_after}
-use borrow.Author.Rules.{rules}
 use Rattle.sensor.proofs.instance.kind_after.Goals as goal
 
 pub returns-in-Silent : goal.returns-in-Silent

@@ -1,7 +1,6 @@
 -- `sensor::instance::sent_after` meets its contract.
 -- Assumes nothing.
 use Rattle.sensor.specs.Tick.{sent_after}
-use borrow.Author.Rules.{rules}
 use Rattle.sensor.proofs.instance.sent_after.Goals as goal
 
 pub returns-in-Silent : goal.returns-in-Silent

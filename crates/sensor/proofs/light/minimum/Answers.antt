@@ -2,7 +2,6 @@
 -- Assumes nothing.
 use Prim.Native.Nat.{ℕ, ◌%◌, ◌*◌, ◌/◌, ◌<◌, ◌≤◌, ◌^◌, min}
 use Rattle.sensor.specs.Light.{minimum}
-use borrow.Author.Rules.{rules}
 use lib.Pow.{pow_mono}
 use mathlib.Core.Path.{◌≡◌}
 use native.Mathlib.Omega.{arith}

@@ -1,7 +1,6 @@
 -- `sensor::light::under` meets its contract.
 -- Assumes nothing.
 use Rattle.sensor.specs.declared.light.Band.TheVariants.{Between}
-use borrow.Author.Rules.{rules}
 use mathlib.Core.Path.{ap}
 use native.Mathlib.Omega.{arith}
 use Rattle.sensor.proofs.light.under.Goals as goal

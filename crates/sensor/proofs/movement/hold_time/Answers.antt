@@ -1,7 +1,6 @@
 -- `sensor::movement::hold_time` meets its contract.
 -- Assumes nothing.
 use Rattle.sensor.specs.Movement.{hold_time}
-use borrow.Author.Rules.{rules}
 use borrow.Author.Tests.{eq-eqb, ne_eqb}
 use Rattle.sensor.proofs.movement.hold_time.Goals as goal
 

@@ -1,7 +1,6 @@
 -- `sensor::occupancy::triggers` meets its contract.
 -- Assumes nothing.
 use Rattle.sensor.specs.Occupancy.{triggers}
-use borrow.Author.Rules.{rules}
 use Rattle.sensor.proofs.occupancy.triggers.Goals as goal
 
 pub returns : goal.returns

@@ -1,7 +1,6 @@
 -- `ticks::passing::in_time` meets its contract.
 -- Assumes nothing.
 use Rattle.ticks.specs.Quiet.{in_time}
-use borrow.Author.Rules.{rules}
 use mathlib.Core.Path.{refl}
 use Rattle.ticks.proofs.passing.in_time.Goals as goal
 

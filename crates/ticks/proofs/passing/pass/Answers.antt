@@ -4,7 +4,6 @@ use Prim.Native.Nat.{◌<◌}
 use Rattle.device.proofs.Tail.{quiet}
 use Rattle.ticks.proofs.Quiet.{pass_none, pass_rest, pass_tick, quiet_most, time_left}
 use Rattle.ticks.specs.Quiet.{passed, quiet_ticks, rest_model}
-use borrow.Author.Rules.{rules}
 use mathlib.Core.Path.{sym, ◌∙◌}
 use native.Mathlib.Omega.{arith}
 use Rattle.ticks.proofs.passing.pass.Goals as goal

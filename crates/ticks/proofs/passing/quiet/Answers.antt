@@ -1,11 +1,11 @@
 -- `ticks::passing::quiet` meets its contract.
 -- Assumes nothing.
-use Prim.Native.Nat.{min, ◌-◌, ◌≤◌}
+use Prim.Native.Nat.{min}
 use Rattle.ticks.proofs.Quiet.{quiet_asked, quiet_stop, quiet_turn}
 use Rattle.ticks.proofs.Sweep.{long}
 use Rattle.ticks.specs.Quiet.{quiet_all}
 use borrow.Author.Rules.{rules}
-use lib.ListN.{length, take}
+use lib.ListN.{length}
 use mathlib.Core.Path.{refl, ◌≡◌}
 use native.Mathlib.Omega.{arith}
 use Rattle.ticks.proofs.passing.quiet.Goals as goal

@@ -1,13 +1,9 @@
 -- `ticks::passing::quiet` meets its contract.
 -- Assumes nothing.
-use Prim.Native.Nat.{min, ◌-◌, ◌≤◌}
-use Rattle.ticks.proofs.Quiet.{quiet_asked, quiet_stop, quiet_turn}
-use Rattle.ticks.proofs.Sweep.{long}
+use Prim.Native.Nat.{◌-◌, ◌≤◌}
 use Rattle.ticks.specs.Quiet.{quiet_all}
-use borrow.Author.Rules.{rules}
-use lib.ListN.{length, take}
-use mathlib.Core.Path.{refl, ◌≡◌}
-use native.Mathlib.Omega.{arith}
+use lib.ListN.{take}
+use mathlib.Core.Path.{◌≡◌}
 use Rattle.ticks.proofs.passing.quiet.Given as goal
 
 abbrev pub invariant-loop-i : goal.invariant-loop-i

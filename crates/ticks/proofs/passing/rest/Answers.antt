@@ -1,11 +1,10 @@
 -- `ticks::passing::rest` meets its contract.
 -- Assumes nothing.
-use Prim.Native.Nat.{min, ◌-◌, ◌≤◌}
-use Rattle.ticks.proofs.Quiet.{rest_turn, rest_whole, rest_first}
+use Prim.Native.Nat.{min}
+use Rattle.ticks.proofs.Quiet.{rest_turn, rest_whole}
 use Rattle.ticks.proofs.Sweep.{long}
 use Rattle.ticks.specs.Tick.{sweep}
 use borrow.Author.Rules.{rules}
-use lib.ListN.{length}
 use mathlib.Core.Path.{refl, ◌≡◌, ◌∙◌}
 use native.Mathlib.Omega.{arith}
 use Rattle.ticks.proofs.passing.rest.Goals as goal

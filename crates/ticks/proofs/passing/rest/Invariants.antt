@@ -1,13 +1,9 @@
 -- `ticks::passing::rest` meets its contract.
 -- Assumes nothing.
-use Prim.Native.Nat.{min, ◌-◌, ◌≤◌}
-use Rattle.ticks.proofs.Quiet.{rest_turn, rest_whole, rest_first}
-use Rattle.ticks.proofs.Sweep.{long}
-use Rattle.ticks.specs.Tick.{sweep}
-use borrow.Author.Rules.{rules}
+use Prim.Native.Nat.{◌-◌, ◌≤◌}
+use Rattle.ticks.proofs.Quiet.{rest_first}
 use lib.ListN.{length}
-use mathlib.Core.Path.{refl, ◌≡◌, ◌∙◌}
-use native.Mathlib.Omega.{arith}
+use mathlib.Core.Path.{◌≡◌}
 use Rattle.ticks.proofs.passing.rest.Given as goal
 
 abbrev pub invariant-loop-i : goal.invariant-loop-i

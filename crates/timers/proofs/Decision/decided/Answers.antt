@@ -1,7 +1,6 @@
 -- `timers::Decision::decided` meets its contract.
 -- Assumes nothing.
 use Rattle.timers.specs.Decision.{decided}
-use borrow.Author.Rules.{rules}
 use Rattle.timers.proofs.Decision.decided.Goals as goal
 
 pub returns-then-cause : goal.returns-then-cause

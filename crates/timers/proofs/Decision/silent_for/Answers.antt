@@ -1,7 +1,6 @@
 -- `timers::Decision::silent_for` meets its contract.
 -- Assumes nothing.
 use Rattle.timers.specs.Quiet.{silent_for}
-use borrow.Author.Rules.{rules}
 use Rattle.timers.proofs.Decision.silent_for.Goals as goal
 
 pub returns-then-cause : goal.returns-then-cause

@@ -1,7 +1,6 @@
 -- `timers::Report::due` meets its contract.
 -- Assumes nothing.
 use Rattle.timers.specs.Timers.{due}
-use borrow.Author.Rules.{rules}
 use Rattle.timers.proofs.Report.due.Goals as goal
 
 pub returns-in-Stopped : goal.returns-in-Stopped

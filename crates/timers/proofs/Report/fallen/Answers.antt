@@ -1,7 +1,6 @@
 -- `timers::Report::fallen` meets its contract.
 -- Assumes nothing.
 use Rattle.timers.specs.Timers.{fallen_report}
-use borrow.Author.Rules.{rules}
 use Rattle.timers.proofs.Report.fallen.Goals as goal
 
 pub returns-in-Stopped : goal.returns-in-Stopped

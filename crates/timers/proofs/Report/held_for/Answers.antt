@@ -1,7 +1,6 @@
 -- `timers::Report::held_for` meets its contract.
 -- Assumes nothing.
 use Rattle.timers.specs.Quiet.{held_for}
-use borrow.Author.Rules.{rules}
 use Rattle.timers.proofs.Report.held_for.Goals as goal
 
 pub returns-in-Stopped : goal.returns-in-Stopped

@@ -1,7 +1,6 @@
 -- `timers::Report::rested` meets its contract.
 -- Assumes nothing.
 use Rattle.timers.specs.Quiet.{rested_report}
-use borrow.Author.Rules.{rules}
 use Rattle.timers.proofs.Report.rested.Goals as goal
 
 pub returns-in-Stopped : goal.returns-in-Stopped

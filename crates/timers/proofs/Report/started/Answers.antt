@@ -1,7 +1,6 @@
 -- `timers::Report::started` meets its contract.
 -- Assumes nothing.
 use Rattle.timers.specs.Timers.{started_report}
-use borrow.Author.Rules.{rules}
 use borrow.Author.Tests.{eq-eqb, ne_eqb}
 use Rattle.timers.proofs.Report.started.Goals as goal
 

@@ -1,7 +1,6 @@
 -- `timers::Rules::dead_time` meets its contract.
 -- Assumes nothing.
 use Rattle.timers.specs.Timers.{dead_time}
-use borrow.Author.Rules.{rules}
 use Rattle.timers.proofs.Rules.dead_time.Goals as goal
 
 pub returns : goal.returns

@@ -1,7 +1,6 @@
 -- `timers::Rules::report_time` meets its contract.
 -- Assumes nothing.
 use Rattle.timers.specs.Timers.{report_time}
-use borrow.Author.Rules.{rules}
 use Rattle.timers.proofs.Rules.report_time.Goals as goal
 
 pub returns : goal.returns

@@ -1,7 +1,6 @@
 -- `timers::Timers::after` meets its contract.
 -- Assumes nothing.
 use Rattle.timers.specs.Decision.{after}
-use borrow.Author.Rules.{rules}
 use Rattle.timers.proofs.Timers.after.Goals as goal
 
 pub returns-in-Silent : goal.returns-in-Silent

@@ -1,7 +1,6 @@
 -- `timers::Timers::fallen` meets its contract.
 -- Assumes nothing.
 use Rattle.timers.specs.Timers.{fallen}
-use borrow.Author.Rules.{rules}
 use Rattle.timers.proofs.Timers.fallen.Goals as goal
 
 pub returns : goal.returns

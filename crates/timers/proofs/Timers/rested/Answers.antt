@@ -1,7 +1,6 @@
 -- `timers::Timers::rested` meets its contract.
 -- Assumes nothing.
 use Rattle.timers.specs.Quiet.{rested}
-use borrow.Author.Rules.{rules}
 use Rattle.timers.proofs.Timers.rested.Goals as goal
 
 pub returns : goal.returns

@@ -1,7 +1,6 @@
 -- `timers::Timers::started` meets its contract.
 -- Assumes nothing.
 use Rattle.timers.specs.Timers.{started}
-use borrow.Author.Rules.{rules}
 use Rattle.timers.proofs.Timers.started.Goals as goal
 
 pub returns : goal.returns

@@ -1,7 +1,6 @@
 -- `device::judged::Judged::as_repeat` meets its contract.
 -- Assumes nothing.
 use Rattle.device.specs.Frame.{as_repeat}
-use borrow.Author.Rules.{rules}
 use Rattle.device.proofs.judged.Judged.as_repeat.Goals as goal
 
 pub returns-then-repeat : goal.returns-then-repeat

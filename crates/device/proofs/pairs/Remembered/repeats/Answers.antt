@@ -1,7 +1,6 @@
 -- `device::pairs::Remembered::repeats` meets its contract.
 -- Assumes nothing.
 use Rattle.device.specs.Frame.{repeats}
-use borrow.Author.Rules.{rules}
 use Rattle.device.proofs.pairs.Remembered.repeats.Goals as goal
 
 pub returns-in-Nothing : goal.returns-in-Nothing

@@ -1,7 +1,6 @@
 -- `sensor::colour::Colour::allows` meets its contract.
 -- Assumes nothing.
 use Rattle.sensor.specs.Colour.{colour_allows}
-use borrow.Author.Rules.{rules}
 use borrow.Author.Tests.{eq-eqb, ne_eqb}
 use Rattle.sensor.proofs.colour.Colour.allows.Goals as goal
 

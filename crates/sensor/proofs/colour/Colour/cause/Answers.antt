@@ -1,7 +1,6 @@
 -- `sensor::colour::Colour::cause` meets its contract.
 -- Assumes nothing.
 use Rattle.sensor.specs.Colour.{colour_cause}
-use borrow.Author.Rules.{rules}
 use Rattle.sensor.proofs.colour.Colour.cause.Goals as goal
 
 pub returns : goal.returns

@@ -1,7 +1,6 @@
 -- `sensor::colour::Colour::fresh` meets its contract.
 -- Assumes nothing.
 use Rattle.sensor.specs.Fresh.{colour_fresh}
-use borrow.Author.Rules.{rules}
 use Rattle.sensor.proofs.colour.Colour.fresh.Goals as goal
 
 pub returns : goal.returns

@@ -1,7 +1,6 @@
 -- `sensor::colour::Colour::information` meets its contract.
 -- Assumes nothing.
 use Rattle.sensor.specs.Colour.{colour_information}
-use borrow.Author.Rules.{rules}
 use Rattle.sensor.proofs.colour.Colour.information.Goals as goal
 
 pub returns : goal.returns

@@ -1,7 +1,6 @@
 -- `sensor::colour::Colour::sent` meets its contract.
 -- Assumes nothing.
 use Rattle.sensor.specs.Colour.{colour_sent}
-use borrow.Author.Rules.{rules}
 use Rattle.sensor.proofs.colour.Colour.sent.Goals as goal
 
 pub returns-then-cause : goal.returns-then-cause

@@ -1,7 +1,6 @@
 -- `sensor::instance::Instance::closed` meets its contract.
 -- Assumes nothing.
 use Rattle.sensor.specs.Tick.{closed}
-use borrow.Author.Rules.{rules}
 use Rattle.sensor.proofs.instance.Instance.closed.Goals as goal
 
 pub returns : goal.returns

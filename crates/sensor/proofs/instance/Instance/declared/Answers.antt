@@ -1,7 +1,6 @@
 -- `sensor::instance::Instance::declared` meets its contract.
 -- Assumes nothing.
 use Rattle.sensor.specs.Fresh.{declared}
-use borrow.Author.Rules.{rules}
 use Rattle.sensor.proofs.instance.Instance.declared.Goals as goal
 
 pub returns-in-Occupancy : goal.returns-in-Occupancy

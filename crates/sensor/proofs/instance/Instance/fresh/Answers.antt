@@ -1,7 +1,6 @@
 -- `sensor::instance::Instance::fresh` meets its contract.
 -- Assumes nothing.
 use Rattle.sensor.specs.Fresh.{fresh}
-use borrow.Author.Rules.{rules}
 use Rattle.sensor.proofs.instance.Instance.fresh.Goals as goal
 
 pub returns : goal.returns

@@ -1,7 +1,6 @@
 -- `sensor::instance::Instance::quiet_for` meets its contract.
 -- Assumes nothing.
 use Rattle.sensor.specs.Quiet.{quiet_for}
-use borrow.Author.Rules.{rules}
 use Rattle.sensor.proofs.instance.Instance.quiet_for.Goals as goal
 
 pub returns-then-steady : goal.returns-then-steady

@@ -1,7 +1,6 @@
 -- `sensor::instance::Instance::rested` meets its contract.
 -- Assumes nothing.
 use Rattle.sensor.specs.Quiet.{rested}
-use borrow.Author.Rules.{rules}
 use Rattle.sensor.proofs.instance.Instance.rested.Goals as goal
 
 pub returns : goal.returns

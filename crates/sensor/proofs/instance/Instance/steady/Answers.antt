@@ -1,7 +1,6 @@
 -- `sensor::instance::Instance::steady` meets its contract.
 -- Assumes nothing.
 use Rattle.sensor.specs.Quiet.{steady}
-use borrow.Author.Rules.{rules}
 use Rattle.sensor.proofs.instance.Instance.steady.Goals as goal
 
 pub returns : goal.returns

@@ -1,7 +1,6 @@
 -- `sensor::instance::Instance::tick` meets its contract.
 -- Assumes nothing.
 use Rattle.sensor.specs.Tick.{ticked}
-use borrow.Author.Rules.{rules}
 use Rattle.sensor.proofs.instance.Instance.tick.Goals as goal
 
 pub returns : goal.returns

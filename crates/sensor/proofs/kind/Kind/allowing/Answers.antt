@@ -1,7 +1,6 @@
 -- `sensor::kind::Kind::allowing` meets its contract.
 -- Assumes nothing.
 use Rattle.sensor.specs.Kind.{allowing}
-use borrow.Author.Rules.{rules}
 use Rattle.sensor.proofs.kind.Kind.allowing.Goals as goal
 
 pub returns-in-Light : goal.returns-in-Light

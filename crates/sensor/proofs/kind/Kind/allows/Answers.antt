@@ -1,7 +1,6 @@
 -- `sensor::kind::Kind::allows` meets its contract.
 -- Assumes nothing.
 use Rattle.sensor.specs.Kind.{allows}
-use borrow.Author.Rules.{rules}
 use Rattle.sensor.proofs.kind.Kind.allows.Goals as goal
 
 pub returns-in-Light : goal.returns-in-Light

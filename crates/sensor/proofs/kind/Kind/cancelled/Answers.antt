@@ -1,7 +1,6 @@
 -- `sensor::kind::Kind::cancelled` meets its contract.
 -- Assumes nothing.
 use Rattle.sensor.specs.Kind.{cancelled}
-use borrow.Author.Rules.{rules}
 use Rattle.sensor.proofs.kind.Kind.cancelled.Goals as goal
 
 pub returns-in-Light : goal.returns-in-Light

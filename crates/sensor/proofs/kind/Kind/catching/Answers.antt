@@ -1,7 +1,6 @@
 -- `sensor::kind::Kind::catching` meets its contract.
 -- Assumes nothing.
 use Rattle.sensor.specs.Kind.{catching}
-use borrow.Author.Rules.{rules}
 use Rattle.sensor.proofs.kind.Kind.catching.Goals as goal
 
 pub returns-in-Light : goal.returns-in-Light

@@ -1,7 +1,6 @@
 -- `sensor::kind::Kind::caught` meets its contract.
 -- Assumes nothing.
 use Rattle.sensor.specs.Kind.{caught}
-use borrow.Author.Rules.{rules}
 use Rattle.sensor.proofs.kind.Kind.caught.Goals as goal
 
 pub returns-in-Light : goal.returns-in-Light

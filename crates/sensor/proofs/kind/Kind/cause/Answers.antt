@@ -1,7 +1,6 @@
 -- `sensor::kind::Kind::cause` meets its contract.
 -- Assumes nothing.
 use Rattle.sensor.specs.Kind.{cause}
-use borrow.Author.Rules.{rules}
 use Rattle.sensor.proofs.kind.Kind.cause.Goals as goal
 
 pub returns-in-Light : goal.returns-in-Light

@@ -1,7 +1,6 @@
 -- `sensor::kind::Kind::falls_for` meets its contract.
 -- Assumes nothing.
 use Rattle.sensor.specs.Quiet.{falls_for}
-use borrow.Author.Rules.{rules}
 use Rattle.sensor.proofs.kind.Kind.falls_for.Goals as goal
 
 pub returns-in-Light : goal.returns-in-Light

@@ -1,7 +1,6 @@
 -- `sensor::kind::Kind::information` meets its contract.
 -- Assumes nothing.
 use Rattle.sensor.specs.Kind.{information}
-use borrow.Author.Rules.{rules}
 use Rattle.sensor.proofs.kind.Kind.information.Goals as goal
 
 pub returns-in-Light : goal.returns-in-Light

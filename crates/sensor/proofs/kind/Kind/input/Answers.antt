@@ -1,7 +1,6 @@
 -- `sensor::kind::Kind::input` meets its contract.
 -- Assumes nothing.
 use Rattle.sensor.specs.Kind.{input}
-use borrow.Author.Rules.{rules}
 use Rattle.sensor.proofs.kind.Kind.input.Goals as goal
 
 pub returns-in-Light : goal.returns-in-Light

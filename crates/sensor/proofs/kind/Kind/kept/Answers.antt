@@ -1,7 +1,6 @@
 -- `sensor::kind::Kind::kept` meets its contract.
 -- Assumes nothing.
 use Rattle.sensor.specs.Kind.{kept}
-use borrow.Author.Rules.{rules}
 use Rattle.sensor.proofs.kind.Kind.kept.Goals as goal
 
 pub returns-in-Light : goal.returns-in-Light

@@ -1,7 +1,6 @@
 -- `sensor::kind::Kind::repeat` meets its contract.
 -- Assumes nothing.
 use Rattle.sensor.specs.Kind.{repeat}
-use borrow.Author.Rules.{rules}
 use Rattle.sensor.proofs.kind.Kind.repeat.Goals as goal
 
 pub returns-in-Light : goal.returns-in-Light

@@ -1,7 +1,6 @@
 -- `sensor::kind::Kind::resolution` meets its contract.
 -- Assumes nothing.
 use Rattle.sensor.specs.Kind.{resolution}
-use borrow.Author.Rules.{rules}
 use Rattle.sensor.proofs.kind.Kind.resolution.Goals as goal
 
 pub returns-in-Light : goal.returns-in-Light

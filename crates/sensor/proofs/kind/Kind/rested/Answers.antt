@@ -1,7 +1,6 @@
 -- `sensor::kind::Kind::rested` meets its contract.
 -- Assumes nothing.
 use Rattle.sensor.specs.Quiet.{rested_kind}
-use borrow.Author.Rules.{rules}
 use Rattle.sensor.proofs.kind.Kind.rested.Goals as goal
 
 pub returns-in-Light : goal.returns-in-Light

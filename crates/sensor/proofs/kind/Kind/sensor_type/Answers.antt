@@ -1,7 +1,6 @@
 -- `sensor::kind::Kind::sensor_type` meets its contract.
 -- Assumes nothing.
 use Rattle.sensor.specs.Kind.{sensor_type}
-use borrow.Author.Rules.{rules}
 use Rattle.sensor.proofs.kind.Kind.sensor_type.Goals as goal
 
 pub returns-in-Light : goal.returns-in-Light

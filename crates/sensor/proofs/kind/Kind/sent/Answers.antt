@@ -1,7 +1,6 @@
 -- `sensor::kind::Kind::sent` meets its contract.
 -- Assumes nothing.
 use Rattle.sensor.specs.Kind.{sent}
-use borrow.Author.Rules.{rules}
 use Rattle.sensor.proofs.kind.Kind.sent.Goals as goal
 
 pub returns-in-Light : goal.returns-in-Light

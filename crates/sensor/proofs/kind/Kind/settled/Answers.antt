@@ -1,7 +1,6 @@
 -- `sensor::kind::Kind::settled` meets its contract.
 -- Assumes nothing.
 use Rattle.sensor.specs.Quiet.{settled}
-use borrow.Author.Rules.{rules}
 use Rattle.sensor.proofs.kind.Kind.settled.Goals as goal
 
 pub returns-in-Light : goal.returns-in-Light

@@ -1,7 +1,6 @@
 -- `sensor::kind::Kind::taken` meets its contract.
 -- Assumes nothing.
 use Rattle.sensor.specs.Kind.{taken}
-use borrow.Author.Rules.{rules}
 use Rattle.sensor.proofs.kind.Kind.taken.Goals as goal
 
 pub returns-in-Light : goal.returns-in-Light

@@ -1,7 +1,6 @@
 -- `sensor::kind::Kind::units` meets its contract.
 -- Assumes nothing.
 use Rattle.sensor.specs.Kind.{units}
-use borrow.Author.Rules.{rules}
 use Rattle.sensor.proofs.kind.Kind.units.Goals as goal
 
 pub returns-in-Light : goal.returns-in-Light

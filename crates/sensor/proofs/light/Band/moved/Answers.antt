@@ -1,7 +1,6 @@
 -- `sensor::light::Band::moved` meets its contract.
 -- Assumes nothing.
 use Rattle.sensor.specs.Light.{moved}
-use borrow.Author.Rules.{rules}
 use borrow.Author.Tests.{le-ltb, lt-ltb}
 use Rattle.sensor.proofs.light.Band.moved.Goals as goal
 

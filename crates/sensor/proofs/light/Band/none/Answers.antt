@@ -1,7 +1,6 @@
 -- `sensor::light::Band::none` meets its contract.
 -- Assumes nothing.
 use Rattle.sensor.specs.Quiet.{no_band}
-use borrow.Author.Rules.{rules}
 use Rattle.sensor.proofs.light.Band.none.Goals as goal
 
 pub returns-in-Nowhere : goal.returns-in-Nowhere

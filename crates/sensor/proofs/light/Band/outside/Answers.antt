@@ -1,7 +1,6 @@
 -- `sensor::light::Band::outside` meets its contract.
 -- Assumes nothing.
 use Rattle.sensor.specs.Light.{outside}
-use borrow.Author.Rules.{rules}
 use Rattle.sensor.proofs.light.Band.outside.Goals as goal
 
 pub returns-in-Nowhere : goal.returns-in-Nowhere

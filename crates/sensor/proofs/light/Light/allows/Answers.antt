@@ -1,7 +1,6 @@
 -- `sensor::light::Light::allows` meets its contract.
 -- Assumes nothing.
 use Rattle.sensor.specs.Light.{light_allows}
-use borrow.Author.Rules.{rules}
 use borrow.Author.Tests.{eq-eqb, ne_eqb}
 use Rattle.sensor.proofs.light.Light.allows.Goals as goal
 

@@ -1,7 +1,6 @@
 -- `sensor::light::Light::cause` meets its contract.
 -- Assumes nothing.
 use Rattle.sensor.specs.Light.{light_cause}
-use borrow.Author.Rules.{rules}
 use Rattle.sensor.proofs.light.Light.cause.Goals as goal
 
 pub returns : goal.returns

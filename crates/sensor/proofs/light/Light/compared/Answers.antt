@@ -1,6 +1,5 @@
 -- `sensor::light::Light::compared` meets its contract.
 -- Assumes nothing.
-use borrow.Author.Rules.{rules}
 use Rattle.sensor.proofs.light.Light.compared.Goals as goal
 
 pub returns-in-Measured : goal.returns-in-Measured

@@ -1,7 +1,6 @@
 -- `sensor::light::Light::fresh` meets its contract.
 -- Assumes nothing.
 use Rattle.sensor.specs.Fresh.{light_fresh}
-use borrow.Author.Rules.{rules}
 use Rattle.sensor.proofs.light.Light.fresh.Goals as goal
 
 pub returns : goal.returns

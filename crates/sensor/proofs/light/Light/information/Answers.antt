@@ -1,7 +1,6 @@
 -- `sensor::light::Light::information` meets its contract.
 -- Assumes nothing.
 use Rattle.sensor.specs.Light.{light_information}
-use borrow.Author.Rules.{rules}
 use Rattle.sensor.proofs.light.Light.information.Goals as goal
 
 pub returns : goal.returns

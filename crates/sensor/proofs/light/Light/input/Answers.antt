@@ -1,7 +1,6 @@
 -- `sensor::light::Light::input` meets its contract.
 -- Assumes nothing.
 use Rattle.sensor.specs.Light.{light_input}
-use borrow.Author.Rules.{rules}
 use borrow.Author.Tests.{eq-eqb, ne_eqb}
 use Rattle.sensor.proofs.light.Light.input.Goals as goal
 

@@ -1,7 +1,6 @@
 -- `sensor::light::Light::sent` meets its contract.
 -- Assumes nothing.
 use Rattle.sensor.specs.Light.{light_sent}
-use borrow.Author.Rules.{rules}
 use Rattle.sensor.proofs.light.Light.sent.Goals as goal
 
 pub returns : goal.returns

@@ -1,7 +1,6 @@
 -- `sensor::light::Light::settled` meets its contract.
 -- Assumes nothing.
 use Rattle.sensor.specs.Quiet.{light_settled}
-use borrow.Author.Rules.{rules}
 use Rattle.sensor.proofs.light.Light.settled.Goals as goal
 
 pub returns : goal.returns

@@ -1,7 +1,6 @@
 -- `sensor::movement::Movement::allowing` meets its contract.
 -- Assumes nothing.
 use Rattle.sensor.specs.Movement.{movement_allowing}
-use borrow.Author.Rules.{rules}
 use Rattle.sensor.proofs.movement.Movement.allowing.Goals as goal
 
 pub returns : goal.returns

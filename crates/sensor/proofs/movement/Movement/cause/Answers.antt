@@ -1,7 +1,6 @@
 -- `sensor::movement::Movement::cause` meets its contract.
 -- Assumes nothing.
 use Rattle.sensor.specs.Movement.{movement_cause}
-use borrow.Author.Rules.{rules}
 use Rattle.sensor.proofs.movement.Movement.cause.Goals as goal
 
 pub returns : goal.returns

@@ -1,7 +1,6 @@
 -- `sensor::movement::Movement::falls_for` meets its contract.
 -- Assumes nothing.
 use Rattle.sensor.specs.Quiet.{movement_falls_for}
-use borrow.Author.Rules.{rules}
 use Rattle.sensor.proofs.movement.Movement.falls_for.Goals as goal
 
 pub returns-then-held-seen : goal.returns-then-held-seen

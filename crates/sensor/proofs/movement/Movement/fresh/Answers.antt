@@ -1,7 +1,6 @@
 -- `sensor::movement::Movement::fresh` meets its contract.
 -- Assumes nothing.
 use Rattle.sensor.specs.Fresh.{movement_fresh}
-use borrow.Author.Rules.{rules}
 use Rattle.sensor.proofs.movement.Movement.fresh.Goals as goal
 
 pub returns : goal.returns

@@ -1,7 +1,6 @@
 -- `sensor::movement::Movement::information` meets its contract.
 -- Assumes nothing.
 use Rattle.sensor.specs.Movement.{movement_information}
-use borrow.Author.Rules.{rules}
 use Rattle.sensor.proofs.movement.Movement.information.Goals as goal
 
 pub returns : goal.returns

@@ -1,7 +1,6 @@
 -- `sensor::movement::Movement::input` meets its contract.
 -- Assumes nothing.
 use Rattle.sensor.specs.Movement.{movement_input}
-use borrow.Author.Rules.{rules}
 use Rattle.sensor.proofs.movement.Movement.input.Goals as goal
 
 pub returns : goal.returns

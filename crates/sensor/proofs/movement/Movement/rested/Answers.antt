@@ -1,7 +1,6 @@
 -- `sensor::movement::Movement::rested` meets its contract.
 -- Assumes nothing.
 use Rattle.sensor.specs.Quiet.{movement_rested}
-use borrow.Author.Rules.{rules}
 use Rattle.sensor.proofs.movement.Movement.rested.Goals as goal
 
 pub returns : goal.returns

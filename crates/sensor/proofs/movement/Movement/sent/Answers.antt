@@ -1,7 +1,6 @@
 -- `sensor::movement::Movement::sent` meets its contract.
 -- Assumes nothing.
 use Rattle.sensor.specs.Movement.{movement_sent}
-use borrow.Author.Rules.{rules}
 use Rattle.sensor.proofs.movement.Movement.sent.Goals as goal
 
 pub returns : goal.returns

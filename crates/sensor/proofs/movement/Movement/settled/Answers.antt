@@ -1,7 +1,6 @@
 -- `sensor::movement::Movement::settled` meets its contract.
 -- Assumes nothing.
 use Rattle.sensor.specs.Quiet.{movement_settled}
-use borrow.Author.Rules.{rules}
 use Rattle.sensor.proofs.movement.Movement.settled.Goals as goal
 
 pub returns : goal.returns

@@ -1,7 +1,6 @@
 -- `sensor::movement::Movement::shown` meets its contract.
 -- Assumes nothing.
 use Rattle.sensor.specs.Movement.{shown}
-use borrow.Author.Rules.{rules}
 use Rattle.sensor.proofs.movement.Movement.shown.Goals as goal
 
 pub returns : goal.returns

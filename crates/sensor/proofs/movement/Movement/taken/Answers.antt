@@ -1,7 +1,6 @@
 -- `sensor::movement::Movement::taken` meets its contract.
 -- Assumes nothing.
 use Rattle.sensor.specs.Movement.{movement_taken}
-use borrow.Author.Rules.{rules}
 use Rattle.sensor.proofs.movement.Movement.taken.Goals as goal
 
 pub returns : goal.returns

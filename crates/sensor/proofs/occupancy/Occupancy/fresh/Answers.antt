@@ -1,7 +1,6 @@
 -- `sensor::occupancy::Occupancy::fresh` meets its contract.
 -- Assumes nothing.
 use Rattle.sensor.specs.Fresh.{occupancy_fresh}
-use borrow.Author.Rules.{rules}
 use Rattle.sensor.proofs.occupancy.Occupancy.fresh.Goals as goal
 
 pub returns : goal.returns

@@ -1,7 +1,6 @@
 -- `sensor::occupancy::Occupancy::information` meets its contract.
 -- Assumes nothing.
 use Rattle.sensor.specs.Occupancy.{occupancy_information}
-use borrow.Author.Rules.{rules}
 use Rattle.sensor.proofs.occupancy.Occupancy.information.Goals as goal
 
 pub returns-then-repeats : goal.returns-then-repeats

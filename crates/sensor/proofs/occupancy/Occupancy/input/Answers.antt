@@ -1,7 +1,6 @@
 -- `sensor::occupancy::Occupancy::input` meets its contract.
 -- Assumes nothing.
 use Rattle.sensor.specs.Occupancy.{occupancy_input}
-use borrow.Author.Rules.{rules}
 use Rattle.sensor.proofs.occupancy.Occupancy.input.Goals as goal
 
 pub returns : goal.returns

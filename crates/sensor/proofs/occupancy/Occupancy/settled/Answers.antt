@@ -1,7 +1,6 @@
 -- `sensor::occupancy::Occupancy::settled` meets its contract.
 -- Assumes nothing.
 use Rattle.sensor.specs.Quiet.{occupancy_settled}
-use borrow.Author.Rules.{rules}
 use borrow.Author.Tests.{eq-eqb, ne_eqb}
 use Rattle.sensor.proofs.occupancy.Occupancy.settled.Goals as goal
 

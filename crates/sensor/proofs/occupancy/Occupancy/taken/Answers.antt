@@ -1,7 +1,6 @@
 -- `sensor::occupancy::Occupancy::taken` meets its contract.
 -- Assumes nothing.
 use Rattle.sensor.specs.Occupancy.{occupancy_taken}
-use borrow.Author.Rules.{rules}
 use borrow.Author.Tests.{eq-eqb, ne_eqb}
 use Rattle.sensor.proofs.occupancy.Occupancy.taken.Goals as goal
 
