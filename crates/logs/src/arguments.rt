@@ -1,11 +1,33 @@
 // The numbers that a program is called with.
 ghost use Rattle.std.specs.Prelude.{◌≤◌};
 
+use std::env::{Env, FillError};
+
+// So many words the program is called with, its name among them.
+pub fn count(env: &impl Env) -> usize {
+    for i in 0..usize::MAX {
+        if !is_word(env, i) {
+            return i;
+        }
+    }
+    usize::MAX
+}
+
+fn is_word(env: &impl Env, i: usize) -> bool {
+    match env.arg(i, &mut []) {
+        Ok(_) => true,
+        Err(FillError::TooLong) => true,
+        Err(FillError::NotPresent) => false,
+    }
+}
+
 // Word i behind the program's name as a number: its decimal digits; 0 where there is no such word.
-pub fn argument(i: usize) -> u64 {
+pub fn argument(env: &impl Env, i: usize) -> u64 {
     let mut text = [0u8; 20];
-    let count = os::arg(i, &mut text);
-    number_in(&text[0..count])
+    match env.arg(i, &mut text) {
+        Ok(count) => number_in(&text[0..count]),
+        Err(_) => 0,
+    }
 }
 
 fn number_in(text: &[u8]) -> u64 {

@@ -2,6 +2,8 @@
 // its name what to do: with none it shows the log, or the session, on standard input as text; with one it lays the device's log, descriptor 3, beside the model's,
 // descriptor 4; with `hour K` it writes the part of the log, which comes as 3 and again as 4, that holds hour K; with more it prints the hour table of the log on
 // standard input: `hours MINUTE HOURS INSTANCES`, with labels from that minute of the day on, and behind that, of a session's log, what the model said of it.
+#![tactic(auto)]
+
 mod arguments;
 mod comparing;
 mod parting;
@@ -10,21 +12,33 @@ mod saying;
 mod sheets;
 mod showing;
 mod source;
+mod streams;
 mod tabling;
 mod words;
 
-fn main() {
+use streams::{Outputs, Stream, pair};
+
+fn main(rt: HostRuntime) {
     let mut device = [0u8; 65536];
     let mut model = [0u8; 65536];
-    let count = os::arg_count();
+    let mut input = Stream::Input(rt.stdin());
+    let to = Outputs {
+        out: rt.stdout(),
+        err: rt.stderr(),
+    };
+    let count = arguments::count(&rt);
     if count < 2 {
-        showing::run(&mut device);
+        showing::run(&mut input, to, &mut device);
     } else if count == 2 {
-        let laid = comparing::run(&mut device, &mut model);
-        saying::say(laid);
+        let (mut of_device, mut of_model) = pair(&rt, comparing::DEVICE, comparing::MODEL);
+        let laid = comparing::run(&mut of_device, &mut of_model, &mut device, &mut model);
+        saying::say(to, laid);
     } else if count == 3 {
-        parting::part(arguments::argument(2), &mut device);
+        let hour = arguments::argument(&rt, 2);
+        let (mut judged, mut copied) = pair(&rt, parting::JUDGED, parting::COPIED);
+        parting::part(hour, &mut judged, &mut copied, to, &mut device);
     } else {
-        tabling::print(tabling::asked_by(count), &mut device);
+        let asked = tabling::asked_by(&rt, count);
+        tabling::print(&rt, asked, &mut input, to, &mut device);
     }
 }

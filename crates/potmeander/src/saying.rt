@@ -1,27 +1,27 @@
 // The line on standard error: what was read and logged; the record that was refused, if one was; the read or write that failed, if one did.
 use crate::reading::{Came, Ran};
-use libc::STDERR_FILENO;
+use std::io::{Print, Stderr};
 
-pub fn say(r: Ran) {
+pub fn say(to: Stderr, r: Ran) {
     let p = r.progress;
-    write(b"potmeander: ");
-    so_many(p.records, b" record");
-    write(b", ");
-    so_many(p.passed, b" byte");
-    write(b" read; ");
-    so_many(p.model.tick as u64, b" tick");
-    write(b"; ");
-    so_many(r.logged, b" byte");
-    write(b" logged");
-    refusal(r);
-    failure(r);
-    write(b"\n");
+    write(to, b"potmeander: ");
+    so_many(to, p.records, b" record");
+    write(to, b", ");
+    so_many(to, p.passed, b" byte");
+    write(to, b" read; ");
+    so_many(to, p.model.tick as u64, b" tick");
+    write(to, b"; ");
+    so_many(to, r.logged, b" byte");
+    write(to, b" logged");
+    refusal(to, r);
+    failure(to, r);
+    write(to, b"\n");
 }
 
 // A record that is cut is refused once no more input can come.
-fn refusal(r: Ran) {
+fn refusal(to: Stderr, r: Ran) {
     let p = r.progress;
-    refused(refused_by(r), p.passed);
+    refused(to, refused_by(r), p.passed);
 }
 
 // The number by which a record is refused for good, or 0.
@@ -42,67 +42,80 @@ fn for_good(number: u8) -> u8 {
     number
 }
 
-fn refused(number: u8, offset: u64) {
+fn refused(to: Stderr, number: u8, offset: u64) {
     if number > 0 {
-        write(b"; record refused at byte ");
-        io::print_decimal(STDERR_FILENO, offset);
-        write(b": ");
-        io::print_decimal(STDERR_FILENO, number as u64);
-        words_of(number);
+        write(to, b"; record refused at byte ");
+        let _ = to.print(offset);
+        write(to, b": ");
+        let _ = to.print(number as u64);
+        words_of(to, number);
     }
 }
 
 // Document 01, "Numbers given when a record is not taken", with M-100, M-106, M-107 and M-110.
-fn words_of(number: u8) {
+fn words_of(to: Stderr, number: u8) {
     match number {
-        1 => write(b", mark unknown"),
-        2 => write(b", fewer bytes remain than the mark, or the record, needs"),
-        3 => write(b", IN, LO or IM after a record of another kind, or its number isn't the next"),
+        1 => write(to, b", mark unknown"),
+        2 => write(
+            to,
+            b", fewer bytes remain than the mark, or the record, needs",
+        ),
+        3 => write(
+            to,
+            b", IN, LO or IM after a record of another kind, or its number isn't the next",
+        ),
         4 => write(
+            to,
             b", IN, LO or IM number 16 or above, or a type and resolution that it does not declare",
         ),
-        5 => write(b", SA for an undeclared instance"),
-        6 => write(b", SA status or value not allowed"),
-        7 => write(b", TK count 0"),
-        8 => write(b", tick number would pass 4,294,967,295"),
-        10 => write(b", tick number would pass 3,456,000, the last of the hour table"),
-        13 => write(b", SA status 1 for an instance that has had a valid sample"),
-        _ => write(b", its log doesn't fit in the output"),
+        5 => write(to, b", SA for an undeclared instance"),
+        6 => write(to, b", SA status or value not allowed"),
+        7 => write(to, b", TK count 0"),
+        8 => write(to, b", tick number would pass 4,294,967,295"),
+        10 => write(
+            to,
+            b", tick number would pass 3,456,000, the last of the hour table",
+        ),
+        13 => write(
+            to,
+            b", SA status 1 for an instance that has had a valid sample",
+        ),
+        _ => write(to, b", its log doesn't fit in the output"),
     }
 }
 
-fn failure(r: Ran) {
+fn failure(to: Stderr, r: Ran) {
     let p = r.progress;
     let came = r.came;
     match came {
-        Came::Failure => read_failure(std::num::wrapping_add_u64(p.passed, p.unread as u64)),
-        Came::Bytes => write_failure(r.lost),
-        Came::End => write_failure(r.lost),
+        Came::Failure => read_failure(to, std::num::wrapping_add_u64(p.passed, p.unread as u64)),
+        Came::Bytes => write_failure(to, r.lost),
+        Came::End => write_failure(to, r.lost),
     }
 }
 
-fn read_failure(after: u64) {
-    write(b"; reading the session failed after ");
-    so_many(after, b" byte");
+fn read_failure(to: Stderr, after: u64) {
+    write(to, b"; reading the session failed after ");
+    so_many(to, after, b" byte");
 }
 
-fn write_failure(lost: u64) {
+fn write_failure(to: Stderr, lost: u64) {
     if lost > 0 {
-        write(b"; writing the log failed, ");
-        so_many(lost, b" byte");
-        write(b" of it lost, and the session was not read further");
+        write(to, b"; writing the log failed, ");
+        so_many(to, lost, b" byte");
+        write(to, b" of it lost, and the session was not read further");
     }
 }
 
 // So many of something.
-fn so_many(n: u64, noun: &[u8]) {
-    io::print_decimal(STDERR_FILENO, n);
-    write(noun);
+fn so_many(to: Stderr, n: u64, noun: &[u8]) {
+    let _ = to.print(n);
+    write(to, noun);
     if n != 1 {
-        write(b"s");
+        write(to, b"s");
     }
 }
 
-fn write(words: &[u8]) {
-    io::write_all(STDERR_FILENO, words);
+fn write(to: Stderr, words: &[u8]) {
+    let _ = to.write_all(words);
 }
