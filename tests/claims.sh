@@ -52,7 +52,8 @@ while read -r word name count rest; do
 done <"$claims"
 
 # as many as `rt ci` has tried and the prover has refused
-tried=$(sed -n 's/^rt: ok; .*; must-fail edits: \([0-9]*\) refused.*/\1/p' target/ci.log 2>/dev/null | tail -n 1)
+cat target/ci.log >"$room/ci" 2>/dev/null || :
+tried=$(sed -n 's/^rt: ok; .*; must-fail edits: \([0-9]*\) refused.*/\1/p' "$room/ci" | tail -n 1)
 [ "${tried:-none}" = "$edits" ] || wrong "target/ci.log: ${tried:-none} of the $edits edits that must fail are refused; .ci/run tries them"
 
 # ---- what each program and archive assumes, `CRATE COUNT FUNCTION..`: the table of docs/TRUST.md, 3, and what the check printed
@@ -67,14 +68,14 @@ while read -r name; do
     fi
     # the verdict is that of `rt ci`: here what it said, or that it said it earlier, of the same files
     log=target/ci.log
-    grep -qs -e "^rt: $name proved\$" -e "^rt: $name is kept: " "$log" || wrong "$log: nothing says that $name is proved; .ci/run checks every crate"
+    grep -q -e "^rt: $name proved\$" -e "^rt: $name is kept: " "$room/ci" || wrong "$log: nothing says that $name is proved; .ci/run checks every crate"
     awk -v file="$log" -v wrong="$room/wrong" -v section="== $name" '
         /^== / { here = $0 == section || index($0, section ":") == 1 }
         here && /^logic=/ {
             for (i = 1; i <= NF; i++)
                 if ($i !~ /^(tests|functions|axioms|target|cpu|sum|native)=/ && $i !~ /^(logic=proved|(logic|libraries)-built=trusted|statements=trusted)$/)
                     print file ": the check says " $i ", of " substr(section, 4) >>wrong
-        }' "$log"
+        }' "$room/ci"
     ! grep -qx "$name" "$room/libraries" || continue
     # a program, or an archive: what its check assumes, which begins with what earlier ones have kept
     log=target/log/$name.out

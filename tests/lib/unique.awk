@@ -1,7 +1,7 @@
 # Holds the entries of each crate's Unique.antt to the functions that the crate exports, both ways, and prints a line for what is wrong:
 #   awk -f unique.awk EXPORTED UNIQUE..     EXPORTED: `CRATE PATH LENT` of each; UNIQUE: crates/CRATE/proofs/Unique.antt
 # An entry `pub NAME_unique : Unique .. X.Post` (UniqueLent; UniqueBehind of one that hands back a reference; UniqueWalked X.ended of one that
-# is walked by hand) is of the function that a `use` line brings as X, whatever NAME says; what is lent it picks by as many `.now`. What
+# is walked by hand) is of the function that a `use` line brings as X, whatever NAME says; what is lent it picks by as many `.N.now`. What
 # `Unique` says is in crate promise, and nowhere else.
 
 function said(f) {
@@ -21,7 +21,7 @@ function entry(name, statement,   word, f) {
         print "Unique of " crate ": " name " is of another crate's function: " said(f)
     else if (!(word[1] in given))
         print "Unique of " crate ": " name " says a " word[1] " that is not crate promise's"
-    else if (gsub(/[.]now/, "", statement) != lent[f])
+    else if (gsub(/[.][0-9]+[.]now/, "", statement) != lent[f])
         print "Unique of " crate ": " name " does not speak of all that is lent to " said(f) ": `&mut` parameters: " lent[f]
     else
         entries[f]++
