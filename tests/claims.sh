@@ -69,14 +69,17 @@ while read -r name; do
     # the verdict is that of `rt ci`: here what it said, or that it said it earlier, of the same files
     log=target/ci.log
     grep -q -e "^rt: $name proved\$" -e "^rt: $name is kept: " "$room/ci" || wrong "$log: nothing says that $name is proved; .ci/run checks every crate"
-    awk -v file="$log" -v wrong="$room/wrong" -v section="== $name" '
+    library=0
+    ! grep -qx "$name" "$room/libraries" || library=1
+    awk -v file="$log" -v wrong="$room/wrong" -v section="== $name" -v library="$library" '
         /^== / { here = $0 == section || index($0, section ":") == 1 }
         here && /^logic=/ {
             for (i = 1; i <= NF; i++)
-                if ($i !~ /^(tests|functions|axioms|target|cpu|sum|native)=/ && $i !~ /^(logic=proved|(logic|libraries)-built=trusted|statements=trusted)$/)
+                if (library && $i ~ /^axioms=/ && $i != "axioms=0" ||
+                    $i !~ /^(tests|functions|axioms|target|cpu|sum|native)=/ && $i !~ /^(logic=proved|(logic|libraries)-built=trusted|statements=trusted)$/)
                     print file ": the check says " $i ", of " substr(section, 4) >>wrong
         }' "$room/ci"
-    ! grep -qx "$name" "$room/libraries" || continue
+    [ "$library" -eq 0 ] || continue
     # a program, or an archive: what its check assumes, which begins with what earlier ones have kept
     log=target/log/$name.out
     if ! grep -qs '^logic=proved ' "$log"; then

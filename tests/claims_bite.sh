@@ -84,6 +84,7 @@ edited target/ci.log 's/^rt: widen is kept: .*/rt: widen NOT PROVED/; s/^rt: wid
     'target/ci.log: nothing says that widen is proved'
 edited target/ci.log '/^== widen$/,/^rt:/ s/^logic=proved.*/& cache=trusted/' 'target/ci.log: the check says cache=trusted, of widen'
 edited target/ci.log '/^== widen$/,/^rt:/ s/^logic=proved.*/& incremental=trusted/' 'target/ci.log: the check says incremental=trusted, of widen'
+edited target/ci.log '/^== widen$/,/^rt:/ s/^logic=proved/& axioms=1/' 'target/ci.log: the check says axioms=1, of widen'
 edited target/ci.log '/^rt: ok; / s/must-fail edits: [0-9]* refused/must-fail edits: 1 refused/' 'target/ci.log: 1 of the '
 edited target/ci.log '/^rt: ok; / s/must-fail edits: [0-9]* refused[^;]*; //' 'target/ci.log: none of the '
 gone target/ci.log 'target/ci.log: nothing says that widen is proved'

@@ -1,7 +1,7 @@
 # Holds the entries of each crate's Unique.antt to the functions that the crate exports, both ways, and prints a line for what is wrong:
 #   awk -f unique.awk EXPORTED UNIQUE..     EXPORTED: `CRATE PATH LENT` of each; UNIQUE: crates/CRATE/proofs/Unique.antt
-# An entry `pub NAME_unique : Unique .. X.Post` (UniqueLent; UniqueBehind of one that hands back a reference; UniqueWalked X.ended of one that
-# is walked by hand) is of the function that a `use` line brings as X, whatever NAME says; what is lent it picks by as many `.N.now`. What
+# An entry `pub NAME_unique : Unique .. X.Post` (UniqueLent; UniqueBehind of one that hands back a reference; UniqueWalked X.ended of one
+# whose contract is taken as it is exported) is of the function that a `use` line brings as X, whatever NAME says; what is lent it picks by as many `.N.now`. What
 # `Unique` says is in crate promise, and nowhere else.
 
 function said(f) {

@@ -31,7 +31,7 @@ acted_unique κs a x y s t p q = p ∙ sym q
 pub queried_unique : Unique 0 queried-kinds.ps queried-kinds.r queried.Post
 queried_unique κs a x y s t p q = p ∙ sym q
 
--- `apply` is walked by hand: its promise is the `ensures` of the contract that the checker exports
+-- of `apply` the promise is the `ensures` of the contract itself, as the checker exports it
 abbrev apply_contract : (w : World) → Clauses w.𝓤 apply.ended
 apply_contract w = apply.clauses w.𝓛 w.𝓜.mem w.𝓡.run
 

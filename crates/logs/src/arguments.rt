@@ -21,6 +21,15 @@ fn is_word(env: &impl Env, i: usize) -> bool {
     }
 }
 
+// Word i is that word.
+pub fn reads(env: &impl Env, i: usize, word: &[u8]) -> bool {
+    let mut text = [0u8; 20];
+    match env.arg(i, &mut text) {
+        Ok(count) => &text[0..count] == word,
+        Err(_) => false,
+    }
+}
+
 // Word i behind the program's name as a number: its decimal digits; 0 where there is no such word.
 pub fn argument(env: &impl Env, i: usize) -> u64 {
     let mut text = [0u8; 20];

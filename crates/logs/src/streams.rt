@@ -1,4 +1,7 @@
 // What the logs are read from: standard input, and the descriptors 3 and 4 that the launcher opened, by the names that the system has for them.
+use crate::arguments::reads;
+use crate::comparing::{DEVICE, MODEL};
+use std::env::Env;
 use std::fs::{File, OpenOptions};
 use std::io::{ErrorKind, Read, Seek, SeekFrom, Stderr, Stdin, Stdout};
 use std::os::unix::fs::FileTypeExt;
@@ -54,6 +57,19 @@ fn names_of(descriptor: i32) -> Option<Names> {
         }),
         _ => None,
     }
+}
+
+// The device's log and the model's. The word behind the program's name says which is standard input, where one is: that need not be opened again.
+pub fn sides<F: Files<File = File> + Env>(system: &F, input: Stdin) -> (Stream, Stream) {
+    if reads(system, 1, b"device") {
+        let names = there(system, MODEL);
+        return (Stream::Input(input), named(system, names));
+    }
+    if reads(system, 1, b"model") {
+        let names = there(system, DEVICE);
+        return (named(system, names), Stream::Input(input));
+    }
+    pair(system, DEVICE, MODEL)
 }
 
 // Both at once: a file that is opened takes the lowest number that is free, and must not be found by it.
