@@ -38,9 +38,8 @@ not_alone() {
         exit 1
     fi
 }
-alone potmeander_session "$archive" "$built/memcpy.o" "$built/memset.o"
-not_alone potmeander_session "$archive" "$built/memcpy.o"
-not_alone potmeander_session "$archive" "$built/memset.o"
+alone potmeander_session "$archive" "$built/memcpy.o"
+not_alone potmeander_session "$archive"
 alone potmeander_compare "$comparing"
 alone potmeander_hours "$hours" "$built/memset.o"
 not_alone potmeander_hours "$hours"

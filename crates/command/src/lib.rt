@@ -16,7 +16,8 @@ use opcode::Meaning;
 use sensor::Instance;
 pub use setting::{changed, obeyed};
 
-// What byte 3 does to the instance.
+// What byte 3 does to the instance. By itself it keeps a call's stack small, and that the locals of its caller are cleared is seen to be needless.
+#[inline(never)]
 pub fn acted(x: Instance, opcode: u8, dtr0: u8) -> Acted
     ensures { result ≡ acted x opcode dtr0 }
 {
