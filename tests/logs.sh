@@ -112,6 +112,9 @@ call compare - "$room/model" <"$room/device"
 same 'standard input for the device'\''s'
 call compare "$room/device" - <"$room/model"
 same 'standard input for the model'\''s'
+{ call compare - "$room/model" && cat >"$room/rest"; } <"$room/device"
+same 'standard input that others go on to read'
+[ ! -s "$room/rest" ] || fail 'what was compared is left on standard input'
 mkfifo "$room/fifo"
 for most in 1 7 9; do
     c_run "$built/feeder" "$most" <"$room/model" | { call compare "$room/device" - && echo "$status" >"$room/status"; }
