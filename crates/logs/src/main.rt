@@ -1,7 +1,8 @@
-// The program behind `./potmeander compare`, `show`, `hours`, `hour` and the sheets of `--sheets`. The launcher opens its files, and tells it by the words behind
-// its name what to do: with none it shows the log, or the session, on standard input as text; with one it lays the device's log, descriptor 3, beside the model's,
-// descriptor 4, of which `device` or `model` says that it is standard input; with `hour K` it writes the part of the log, which comes as 3 and again as 4, that holds hour K; with more it prints the hour table of the log on
-// standard input: `hours MINUTE HOURS INSTANCES`, with labels from that minute of the day on, and behind that, of a session's log, what the model said of it.
+// The program behind `./potmeander compare`, `show`, `hours`, `hour` and the sheets of `--sheets`. The launcher opens its files, and tells it by the words
+// behind its name what to do: with none it shows the log, or the session, on standard input as text; with one it lays the device's log, descriptor 3, beside
+// the model's, descriptor 4, of which `device` or `model` says that it is standard input; with `hour K` it writes the part of the log, which comes as 3 and
+// again as 4, that holds hour K; with more it prints the hour table of the log on standard input: `hours MINUTE HOURS INSTANCES`, with labels from that
+// minute of the day on, and behind that, of a session's log, what the model said of it.
 #![tactic(auto)]
 
 mod arguments;
