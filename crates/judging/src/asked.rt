@@ -129,6 +129,7 @@ fn frame_asked(rest: &[u8], model: Model) -> Asked
 }
 
 // TK, of which the mark is there.
+#[tactic(auto, unfolding(crate::specs::Asked::ticks_asked))]
 fn ticks_asked(rest: &[u8], model: Model) -> Asked
     ensures { (result ≡ ticks_asked rest.now model) × Sound rest.now model result }
 {
