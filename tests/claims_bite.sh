@@ -113,6 +113,9 @@ edited $timers '/pub fn dead_time/,/^    {/ s/^        ensures/        requires 
 &/' 'timers::Rules::dead_time: exported, and has a `requires`'
 edited $timers '/pub fn dead_time/,/^    {/ { /ensures/d; }' 'timers::Rules::dead_time: exported, and has no `ensures`'
 edited $widen 's/^pub fn mask/fn mask/' 'widen::mask: exported, and found in 0 places of the sources'
+edited crates/device/src/pairs.rt 's/^#\[derive(Clone, Copy, PartialEq, Eq)\]/#[derive(Clone, Copy)]/' \
+    'device::pairs::FramePartialEq::eq: exported, and found in 0 places of the sources'
+edited crates/hours/src/records.rt 's/^pub(crate) struct/pub struct/' 'hours::records::RecordsIterator::next: exported, and found in 0 places of the sources'
 edited $widen 's/^    ensures/  ensures/' 'a source is not in the layout'
 
 # ---- archives
@@ -132,13 +135,14 @@ compare=crates/compare/proofs/Unique.antt
 edited $unique '/^pub mask_unique/d' 'Unique: no entry for widen::mask'
 edited $unique "/^pub mask_unique/ s/mask[.]Post/$(brings input_bytes).Post/" 'Unique: no entry for widen::mask'
 edited $unique '/^use .*mask[.]Reads/ s/proofs[.]mask/proofs.input_bytes/' 'Unique: 2 entries for widen::input_bytes'
-edited $unique '/^use .*mask[.]Reads/ s/proofs[.]mask/proofs.capped/' 'Unique of widen: mask_unique is of no exported function: widen::capped'
+edited $unique '/^use .*mask[.]Reads/ s/proofs[.]mask/proofs.bits/' 'Unique of widen: mask_unique is of no exported function: widen::bits'
 edited $unique '/^use .*specs[.]Unique/ s/promise/widen/' "Unique of widen: mask_unique says a Unique that is not crate promise's"
-edited $record '/^pub write_event_unique/ s/ : UniqueLent\(.*[.]Post\).*/ : Unique\1/' \
-    'Unique of record: write_event_unique does not speak of all that is lent'
+edited $record '/^pub Entry-write_unique/ s/ : UniqueLent\(.*[.]Post\).*/ : Unique\1/' \
+    'Unique of record: Entry-write_unique does not speak of all that is lent'
 edited $compare '/^pub rest_unique/d' 'Unique: no entry for compare::rest'
 edited $command '/^pub apply_unique/d' 'Unique: no entry for command::apply'
 edited $command '/^pub apply_unique/ s/apply[.]ended/another.ended/' 'Unique of command: apply_unique is of no exported function'
+edited crates/device/proofs/Unique.antt '/^pub Frame-eq_unique/d' 'Unique: no entry for device::pairs::FramePartialEq::eq'
 edited $record '/^use .*word[.]Reads/ s/Rattle.*word[.]/Rattle.widen.proofs.mask./' "Unique of record: word_unique is of another crate's function: widen::mask"
 gone $unique 'Unique: no entry for widen::mask'
 edited $page '/^pub use .*widen/d' "widen: with functions that it exports, and not gathered by $page"

@@ -1,6 +1,6 @@
 #!/bin/sh
 # A C program calls the library through include/potmeander.h, and gets document 01's log; as C99 and as C++. And what the header says of the
-# archives: which of memcpy and memset each needs, and that it needs nothing else; null with length 0, threads, less than 8 KiB of stack.
+# archives: which of them needs memset, and that they need nothing else; null with length 0, threads, less than 8 KiB of stack.
 set -eu
 cd "$(dirname "$0")/.."
 . tests/lib/build.sh
@@ -26,11 +26,8 @@ done
 cat "$built/controller.out"
 
 # Each archive by itself, with what it needs and not without.
-echo 'void *memcpy(void *to, const void *from, unsigned long count) { (void)from, (void)count; return to; }' >"$built/memcpy.c"
 echo 'void *memset(void *to, int byte, unsigned long count) { (void)byte, (void)count; return to; }' >"$built/memset.c"
-for needed in memcpy memset; do
-    c_object "$built/$needed.o" "$built/$needed.c" -fno-builtin
-done
+c_object "$built/memset.o" "$built/memset.c" -fno-builtin
 alone() { entry=$1 && shift && "$c_tools/bin/ld.lld" -m elf_x86_64 -e "$entry" -o "$built/alone.out" --whole-archive "$@"; }
 not_alone() {
     if alone "$@" 2>/dev/null; then
@@ -38,13 +35,12 @@ not_alone() {
         exit 1
     fi
 }
-alone potmeander_session "$archive" "$built/memcpy.o"
-not_alone potmeander_session "$archive"
+alone potmeander_session "$archive"
 alone potmeander_compare "$comparing"
 alone potmeander_hours "$hours" "$built/memset.o"
 not_alone potmeander_hours "$hours"
-alone potmeander_session_hours "$tabled" "$built/memcpy.o" "$built/memset.o"
-not_alone potmeander_session_hours "$tabled" "$built/memcpy.o"
+alone potmeander_session_hours "$tabled" "$built/memset.o"
+not_alone potmeander_session_hours "$tabled"
 
 c_object "$built/header.o" tests/header.c
 c_object "$built/generator.o" tests/lib/generator.c

@@ -20,6 +20,36 @@ FNR == 1 {
 
 /^}/ { self = "" }
 
+# A type that is not `pub` is no other crate's, and what a trait gives it is not exported, though the checker lists it.
+/^(pub\([a-z]+\) )?(struct|enum) / {
+    type = $0
+    sub(/^.*(struct|enum) /, "", type)
+    sub(/[^A-Za-z_0-9].*/, "", type)
+    inner[crate " " type] = 1
+}
+
+/^impl.* for / {
+    type = trait = $0
+    sub(/^.* for /, "", type)
+    sub(/[^A-Za-z_0-9].*/, "", type)
+    sub(/^impl(<[^>]*>)? /, "", trait)
+    sub(/ for .*/, "", trait)
+    gsub(/[<>]/, "", trait)
+    given[crate " " type trait] = crate " " type
+}
+
+# What a derive writes is a function too: `==` of the type below it, with the promise of its trait.
+/^#\[derive\(.*PartialEq/ { derived = "PartialEq.eq" }
+
+derived && /^pub (struct|enum) / {
+    sub(/[^A-Za-z_0-9].*/, "", $3)
+    f = crate " " $3 derived
+    found[f]++
+    ensures[f]++
+    lent[f] += 0
+    derived = ""
+}
+
 /^ *pub (extern "C" )?fn / {
     name = $0
     sub(/^.*fn /, "", name)
@@ -44,6 +74,8 @@ END {
     for (i = 1; i <= count; i++) {
         n = split(listed[i], step, /[ .]/)
         f = step[1] " " (step[n - 1] ~ /^[A-Z]/ ? step[n - 1] "." : "") step[n]
+        if (given[step[1] " " step[n - 1]] in inner)
+            continue
         said = listed[i]
         gsub(/[ .]/, "::", said)
         if (found[f] != 1)

@@ -4,7 +4,6 @@ use Prim.Native.Nat.{ℕ, ◌<◌, ◌≤◌}
 use Rattle.command.specs.Answering.{ButLatch, acted, acted_by, answered, counted_up, latched, leaving, queried}
 use Rattle.command.specs.Controlling.{ButControl, ButHoldAndCatching, controlled, controlled_kind}
 use Rattle.command.specs.Setting.{block_changed, bounded_hysteresis, bounded_priority, changed, filtered, obeyed, retimed, retimed_dead, retimed_report}
-use Rattle.command.specs.declared.answering.Answer.TheVariants.{None}
 use Rattle.opcode.specs.Meaning.{counts_up, is_control, is_setting, meant}
 use Rattle.opcode.specs.declared.Command.TheVariants.{Disable, Enable, SetDeadtime, SetFilter, SetHold, SetHysteresis, SetHysteresisMin, SetPriority, SetReport, SetValidFilter}
 use Rattle.opcode.specs.declared.Command.{Command}
@@ -27,9 +26,8 @@ use Rattle.sensor.specs.declared.movement.Movement.{Movement as MovementState}
 use Rattle.sensor.specs.declared.occupancy.Occupancy.{Occupancy as OccupancyState}
 use Rattle.sensor.specs.declared.settings.Sample.{Sample}
 use Rattle.sensor.specs.declared.settings.Settings.{Settings}
+use Rattle.std.specs.Prelude.{None, Option, Some}
 use Rattle.timers.specs.Timers.{dead_time, due, report_time, started_report}
-use Rattle.timers.specs.declared.Report.TheVariants.{Left, Stopped}
-use Rattle.timers.specs.declared.Report.{Report}
 use Rattle.timers.specs.declared.Rules.{Rules}
 use borrow.Author.Tests.{eq-eqb, le-ltb, lt-ltb, ne_eqb}
 use lib.Bits.{and_zero_r}
@@ -190,6 +188,21 @@ pub dtr0_counted : (x : Instance) (opcode dtr0 : ℕ) → counts_up (meant x.kin
 unfolding acted
 dtr0_counted x opcode dtr0 e = by_counts x (meant x.kind opcode) dtr0 e
 
+-- ---- a command leaves the sensor as it was, or with fewer triggers waiting; so what holds of both of two sensors then holds after it
+pub command_by : (P : Kind → Kind → Type 0) (j k : Kind) (c : Command) (filter : ℕ) → P j k
+    → ((allowed : ℕ) → P (allowing j allowed) (allowing k allowed)) → P (filtered j c filter) (filtered k c filter)
+unfolding filtered
+command_by P j k Disable filter was fewer = fewer 0
+command_by P j k SetFilter filter was fewer = fewer filter
+command_by P j k SetPriority filter was fewer = was
+command_by P j k Enable filter was fewer = was
+command_by P j k SetReport filter was fewer = was
+command_by P j k SetDeadtime filter was fewer = was
+command_by P j k SetHysteresis filter was fewer = was
+command_by P j k SetHysteresisMin filter was fewer = was
+command_by P j k SetHold filter was fewer = was
+command_by P j k SetValidFilter filter was fewer = fewer filter
+
 -- ---- a command keeps the type, so what the decision goes by depends on the settings alone
 rules_allowed : (k : Kind) (filter : ℕ) (s : Settings) → rules (allowing k filter) s ≡ rules k s
 unfolding allowing repeat rules units
@@ -199,17 +212,7 @@ rules_allowed (Movement m) filter s = refl
 rules_allowed (Colour c) filter s = refl
 
 pub rules_allowing : (k : Kind) (c : Command) (filter : ℕ) (s : Settings) → rules (filtered k c filter) s ≡ rules k s
-unfolding filtered
-rules_allowing k Disable filter s = rules_allowed k 0 s
-rules_allowing k SetFilter filter s = rules_allowed k filter s
-rules_allowing k SetPriority filter s = refl
-rules_allowing k Enable filter s = refl
-rules_allowing k SetReport filter s = refl
-rules_allowing k SetDeadtime filter s = refl
-rules_allowing k SetHysteresis filter s = refl
-rules_allowing k SetHysteresisMin filter s = refl
-rules_allowing k SetHold filter s = refl
-rules_allowing k SetValidFilter filter s = rules_allowed k filter s
+rules_allowing k c filter s = command_by (λ _ j. rules j s ≡ rules k s) k k c filter refl (λ allowed. rules_allowed k allowed s)
 
 pub obeyed_settings : (x : Instance) (c : Command) (d : ℕ) → (obeyed x c d).settings ≡ changed x.settings c d (kept x.kind)
 unfolding obeyed block_changed
@@ -258,21 +261,21 @@ deadtime_waits x d h = ap (λ n. retimed_to x d n) (dead_runs_on x.timers.dead (
 abbrev pub report_set : Instance → (d : ℕ) → Rules
 report_set x d = rules x.kind (with_report d x.settings)
 
-running_kept : (t : Report) (n : ℕ) (r : Rules) → t ≡ Left n → 0 < r.report → retimed_report t r ≡ t
+running_kept : (t : Option ℕ) (n : ℕ) (r : Rules) → t ≡ Some n → 0 < r.report → retimed_report t r ≡ t
 unfolding retimed_report
 running_kept t n r e h = rw (e, ne_eqb r.report 0 (ne_of_gt h))
 
-pub report_waits : (x : Instance) (d n : ℕ) → 0 < d → x.timers.report ≡ Left n → (obeyed x SetReport d).timers ≡ x.timers
+pub report_waits : (x : Instance) (d n : ℕ) → 0 < d → x.timers.report ≡ Some n → (obeyed x SetReport d).timers ≡ x.timers
 unfolding changed obeyed retimed rules block_changed
 report_waits x d n h e = ap (λ t. record { dead = x.timers.dead; report = t }) (running_kept x.timers.report n (report_set x d) e h)
 
 -- three exceptions: report set to 0 stops the report timer at once, so that it is no longer due
-pub zero_stops : (t : Report) (r : Rules) → r.report ≡ 0 → retimed_report t r ≡ Stopped
+pub zero_stops : (t : Option ℕ) (r : Rules) → r.report ≡ 0 → retimed_report t r ≡ None
 unfolding retimed_report
-zero_stops Stopped r e = rw (eq-eqb r.report 0 e)
-zero_stops (Left n) r e = rw (eq-eqb r.report 0 e)
+zero_stops None r e = rw (eq-eqb r.report 0 e)
+zero_stops (Some n) r e = rw (eq-eqb r.report 0 e)
 
-pub report_stops : (x : Instance) → (obeyed x SetReport 0).timers.report ≡ Stopped
+pub report_stops : (x : Instance) → (obeyed x SetReport 0).timers.report ≡ None
 unfolding changed obeyed retimed rules block_changed
 report_stops x = zero_stops x.timers.report (report_set x 0) refl
 
@@ -281,7 +284,7 @@ unfolding due
 no_longer_due x = rw (report_stops x)
 
 -- report set above 0 while stopped starts it at once
-pub report_starts : (x : Instance) (d : ℕ) → 0 < d → x.timers.report ≡ Stopped → (obeyed x SetReport d).timers.report ≡ Left (report_time (report_set x d))
+pub report_starts : (x : Instance) (d : ℕ) → 0 < d → x.timers.report ≡ None → (obeyed x SetReport d).timers.report ≡ Some (report_time (report_set x d))
 unfolding changed obeyed retimed retimed_report rules started_report block_changed
 report_starts x d h e = rw (e, ne_eqb d 0 (ne_of_gt h))
 

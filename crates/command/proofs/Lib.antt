@@ -1,4 +1,4 @@
-mod Rest
+mod Variables
 pub mod Laws
 pub mod Freed
 pub mod Moving

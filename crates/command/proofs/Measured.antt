@@ -1,6 +1,7 @@
 -- M-110: what byte 3 does neither reads nor changes whether a valid sample was taken for the instance.
 -- Assumes nothing.
 use Prim.Native.Nat.{ℕ}
+use Rattle.command.proofs.Variables.{value_alike}
 use Rattle.command.specs.Answering.{acted, acted_by, answered, leaving, queried, value_of}
 use Rattle.command.specs.Controlling.{controlled}
 use Rattle.command.specs.Setting.{block_changed, obeyed}
@@ -10,7 +11,6 @@ use Rattle.opcode.specs.declared.Meaning.TheVariants.{Act, Ask, Ignored, Set}
 use Rattle.opcode.specs.declared.Meaning.{Meaning}
 use Rattle.opcode.specs.declared.Query.TheVariants.{QueryColourSensor, QueryNext, QueryValue, QueryVariable}
 use Rattle.opcode.specs.declared.Query.{Query}
-use Rattle.opcode.specs.declared.Variable.TheVariants.{Catching, Deadtime, Enabled, Error, Filter, Hold, Hysteresis, HysteresisMin, Priority, Report, Resolution, SensorType, Status}
 use Rattle.opcode.specs.declared.Variable.{Variable}
 use Rattle.sensor.specs.Instance.{with_measured}
 use Rattle.sensor.specs.declared.instance.Instance.{Instance}
@@ -23,20 +23,7 @@ but b a = leaving (with_measured b a.instance) a.dtr0 a.answer
 
 module _ (x : Instance) (b : Bool) where
   value_unread : (v : Variable) → value_of (with_measured b x) v ≡ value_of x v
-  unfolding value_of
-  value_unread SensorType = refl
-  value_unread Resolution = refl
-  value_unread Error = refl
-  value_unread Status = refl
-  value_unread Priority = refl
-  value_unread Enabled = refl
-  value_unread Filter = refl
-  value_unread Report = refl
-  value_unread Deadtime = refl
-  value_unread Hysteresis = refl
-  value_unread HysteresisMin = refl
-  value_unread Hold = refl
-  value_unread Catching = refl
+  value_unread v = value_alike x (with_measured b x) refl refl refl refl refl v
 
   query_unread : (q : Query) (d : ℕ) → queried (with_measured b x) q d ≡ but b (queried x q d)
   unfolding answered queried

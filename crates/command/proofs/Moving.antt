@@ -1,13 +1,11 @@
 -- M-100: what byte 3 makes of a movement sensor's value, of its hold timer and of what it owes for a movement that is caught.
 -- Assumes nothing.
 use Prim.Native.Nat.{ℕ, ◌≤◌}
-use Rattle.command.proofs.Laws.{query_keeps}
+use Rattle.command.proofs.Laws.{command_by, query_keeps}
 use Rattle.command.specs.Answering.{acted, acted_by}
 use Rattle.command.specs.Controlling.{controlled, controlled_kind}
-use Rattle.command.specs.Setting.{block_changed, filtered, obeyed}
+use Rattle.command.specs.Setting.{block_changed, obeyed}
 use Rattle.opcode.specs.Meaning.{meant}
-use Rattle.opcode.specs.declared.Command.TheVariants.{Disable, Enable, SetDeadtime, SetFilter, SetHold, SetHysteresis, SetHysteresisMin, SetPriority, SetReport, SetValidFilter}
-use Rattle.opcode.specs.declared.Command.{Command}
 use Rattle.opcode.specs.declared.Control.TheVariants.{CancelHold, CatchMovement}
 use Rattle.opcode.specs.declared.Control.{Control}
 use Rattle.opcode.specs.declared.Meaning.TheVariants.{Act, Ask, Ignored, Set}
@@ -26,23 +24,10 @@ use native.Mathlib.Omega.{arith}
 
 -- ---- byte 3 leaves the sensor as it is, with fewer triggers waiting, or as a control instruction leaves it
 module _ (P : Kind → Type 0) where
-  command_by : (k : Kind) (c : Command) (filter : ℕ) → P k → ((allowed : ℕ) → P (allowing k allowed)) → P (filtered k c filter)
-  unfolding filtered
-  command_by k Disable filter was fewer = fewer 0
-  command_by k SetFilter filter was fewer = fewer filter
-  command_by k SetPriority filter was fewer = was
-  command_by k Enable filter was fewer = was
-  command_by k SetReport filter was fewer = was
-  command_by k SetDeadtime filter was fewer = was
-  command_by k SetHysteresis filter was fewer = was
-  command_by k SetHysteresisMin filter was fewer = was
-  command_by k SetHold filter was fewer = was
-  command_by k SetValidFilter filter was fewer = fewer filter
-
   meaning_by : (x : Instance) (m : Meaning) (d : ℕ) → P x.kind → ((allowed : ℕ) → P (allowing x.kind allowed))
       → ((c : Control) → m ≡ Act c → P (controlled_kind x.kind c x.settings)) → P (acted_by x m d).instance.kind
   unfolding acted_by controlled obeyed block_changed
-  meaning_by x (Set c) d was fewer acts = command_by x.kind c _ was fewer
+  meaning_by x (Set c) d was fewer acts = command_by (λ _ k. P k) x.kind x.kind c _ was fewer
   meaning_by x (Act c) d was fewer acts = acts c refl
   meaning_by x (Ask q) d was fewer acts = subst P (sym (ap (λ y. y.kind) (query_keeps x q d))) was
   meaning_by x Ignored d was fewer acts = was

@@ -1,12 +1,13 @@
 -- M-107: what byte 3 does asks nothing of the text that a light sensor was built to, and leaves it.
 -- Assumes nothing.
 use Prim.Native.Nat.{ℕ}
-use Rattle.command.specs.Answering.{acted, acted_by, answered, leaving, only_if, queried, value_of}
-use Rattle.command.specs.Controlling.{controlled, controlled_kind}
+use Rattle.command.proofs.Laws.{command_by, control_changes}
+use Rattle.command.proofs.Variables.{value_alike}
+use Rattle.command.specs.Answering.{acted, acted_by, answered, leaving, queried, value_of}
+use Rattle.command.specs.Controlling.{ButHoldAndCatching, controlled, controlled_kind}
 use Rattle.command.specs.Setting.{block_changed, filtered, obeyed}
 use Rattle.command.specs.declared.answering.Acted.{Acted}
 use Rattle.opcode.specs.Meaning.{meant}
-use Rattle.opcode.specs.declared.Command.TheVariants.{Disable, Enable, SetDeadtime, SetFilter, SetHold, SetHysteresis, SetHysteresisMin, SetPriority, SetReport, SetValidFilter}
 use Rattle.opcode.specs.declared.Command.{Command}
 use Rattle.opcode.specs.declared.Control.TheVariants.{CancelHold, CatchMovement}
 use Rattle.opcode.specs.declared.Control.{Control}
@@ -14,18 +15,17 @@ use Rattle.opcode.specs.declared.Meaning.TheVariants.{Act, Ask, Ignored, Set}
 use Rattle.opcode.specs.declared.Meaning.{Meaning}
 use Rattle.opcode.specs.declared.Query.TheVariants.{QueryColourSensor, QueryNext, QueryValue, QueryVariable}
 use Rattle.opcode.specs.declared.Query.{Query}
-use Rattle.opcode.specs.declared.Variable.TheVariants.{Catching, Deadtime, Enabled, Error, Filter, Hold, Hysteresis, HysteresisMin, Priority, Report, Resolution, SensorType, Status}
 use Rattle.opcode.specs.declared.Variable.{Variable}
-use Rattle.command.specs.declared.answering.Answer.TheVariants.{Byte}
 use Rattle.sensor.proofs.Texts.{allowing_as, cancelled_as, catching_as, caught_as, input_as, kept_as, resolution_as, rules_as, type_as}
-use Rattle.sensor.specs.Kind.{allowing, cancelled, caught}
+use Rattle.sensor.specs.Kind.{allowing}
 use Rattle.sensor.specs.Text.{InRange, Shows, Takes, as_in, kind_as_in}
 use Rattle.sensor.specs.declared.instance.Instance.{Instance}
 use Rattle.sensor.specs.declared.kind.Kind.TheVariants.{Colour, Light, Movement, Occupancy}
 use Rattle.sensor.specs.declared.kind.Kind.{Kind}
+use Rattle.sensor.specs.declared.movement.Movement.{Movement as MovementState}
 use Rattle.sensor.specs.declared.settings.Sample.{Sample}
 use Rattle.sensor.specs.declared.settings.Settings.{Settings}
-use mathlib.Core.Path.{ap, refl, ◌≡◌}
+use mathlib.Core.Path.{ap, refl, subst, sym, ◌≡◌}
 
 pub meant_as : (k : Kind) (opcode : ℕ) → meant (kind_as_in k) opcode ≡ meant k opcode
 unfolding meant
@@ -35,17 +35,7 @@ meant_as (Movement m) opcode = refl
 meant_as (Colour c) opcode = refl
 
 filtered_as : (k : Kind) (c : Command) (filter : ℕ) → filtered (kind_as_in k) c filter ≡ kind_as_in (filtered k c filter)
-unfolding filtered
-filtered_as k Disable filter = allowing_as k 0
-filtered_as k SetFilter filter = allowing_as k filter
-filtered_as k SetPriority filter = refl
-filtered_as k Enable filter = refl
-filtered_as k SetReport filter = refl
-filtered_as k SetDeadtime filter = refl
-filtered_as k SetHysteresis filter = refl
-filtered_as k SetHysteresisMin filter = refl
-filtered_as k SetHold filter = refl
-filtered_as k SetValidFilter filter = allowing_as k filter
+filtered_as k c filter = command_by (λ a b. a ≡ kind_as_in b) (kind_as_in k) k c filter refl (allowing_as k)
 
 controlled_as : (k : Kind) (c : Control) (s : Settings) → controlled_kind (kind_as_in k) c s ≡ kind_as_in (controlled_kind k c s)
 unfolding controlled_kind
@@ -58,20 +48,7 @@ like a = leaving (as_in a.instance) a.dtr0 a.answer
 
 module _ (x : Instance) where
   value_as : (v : Variable) → value_of (as_in x) v ≡ value_of x v
-  unfolding value_of
-  value_as SensorType = ap Byte (type_as x.kind)
-  value_as Resolution = ap Byte (resolution_as x.kind)
-  value_as Error = refl
-  value_as Status = refl
-  value_as Priority = refl
-  value_as Enabled = refl
-  value_as Filter = refl
-  value_as Report = refl
-  value_as Deadtime = refl
-  value_as Hysteresis = refl
-  value_as HysteresisMin = refl
-  value_as Hold = refl
-  value_as Catching = ap (λ b. only_if b 0xFF) (catching_as x.kind)
+  value_as v = value_alike x (as_in x) (type_as x.kind) (resolution_as x.kind) (catching_as x.kind) refl refl v
 
   query_as : (q : Query) (d : ℕ) → queried (as_in x) q d ≡ like (queried x q d)
   unfolding answered queried
@@ -106,46 +83,26 @@ allowing_takes (Occupancy o) allowed sample h = tt
 allowing_takes (Movement m) allowed sample h = tt
 allowing_takes (Colour c) allowed sample h = tt
 
-controlled_shows : (k : Kind) (c : Control) (s : Settings) → Shows k → Shows (controlled_kind k c s)
-unfolding controlled_kind caught cancelled
-controlled_shows (Light l) CatchMovement s h = h
-controlled_shows (Light l) CancelHold s h = h
-controlled_shows (Occupancy o) CatchMovement s h = tt
-controlled_shows (Occupancy o) CancelHold s h = tt
-controlled_shows (Movement m) CatchMovement s h = tt
-controlled_shows (Movement m) CancelHold s h = tt
-controlled_shows (Colour c) CatchMovement s h = tt
-controlled_shows (Colour c) CancelHold s h = tt
-
-controlled_takes : (k : Kind) (c : Control) (s : Settings) (sample : Sample) → Takes k sample → Takes (controlled_kind k c s) sample
-unfolding controlled_kind caught cancelled
-controlled_takes (Light l) CatchMovement s sample h = h
-controlled_takes (Light l) CancelHold s sample h = h
-controlled_takes (Occupancy o) CatchMovement s sample h = tt
-controlled_takes (Occupancy o) CancelHold s sample h = tt
-controlled_takes (Movement m) CatchMovement s sample h = tt
-controlled_takes (Movement m) CancelHold s sample h = tt
-controlled_takes (Colour c) CatchMovement s sample h = tt
-controlled_takes (Colour c) CancelHold s sample h = tt
+-- a control instruction changes a movement sensor alone, whose value has no range
+control_by : (P : Kind → Type 0) (k j : Kind) → ButHoldAndCatching k j → P k → ((m : MovementState) → P (Movement m)) → P j
+control_by P (Light l) j e was any = subst P (sym e) was
+control_by P (Occupancy o) j e was any = subst P (sym e) was
+control_by P (Movement m) j (left, catching, e) was any = subst P (sym e) (any _)
+control_by P (Colour c) j e was any = subst P (sym e) was
 
 module _ (x : Instance) (f : InRange x) where
   obeyed_in_range : (c : Command) (d : ℕ) → InRange (obeyed x c d)
-  unfolding obeyed block_changed filtered
-  obeyed_in_range Disable d = record { shows = allowing_shows x.kind _ f.shows; holds = allowing_takes x.kind _ x.held f.holds }
-  obeyed_in_range SetFilter d = record { shows = allowing_shows x.kind _ f.shows; holds = allowing_takes x.kind _ x.held f.holds }
-  obeyed_in_range SetValidFilter d = record { shows = allowing_shows x.kind _ f.shows; holds = allowing_takes x.kind _ x.held f.holds }
-  obeyed_in_range SetPriority d = record { shows = f.shows; holds = f.holds }
-  obeyed_in_range Enable d = record { shows = f.shows; holds = f.holds }
-  obeyed_in_range SetReport d = record { shows = f.shows; holds = f.holds }
-  obeyed_in_range SetDeadtime d = record { shows = f.shows; holds = f.holds }
-  obeyed_in_range SetHysteresis d = record { shows = f.shows; holds = f.holds }
-  obeyed_in_range SetHysteresisMin d = record { shows = f.shows; holds = f.holds }
-  obeyed_in_range SetHold d = record { shows = f.shows; holds = f.holds }
+  unfolding obeyed block_changed
+  obeyed_in_range c d = record {
+    shows = command_by (λ _ k. Shows k) x.kind x.kind c _ f.shows (λ allowed. allowing_shows x.kind allowed f.shows);
+    holds = command_by (λ _ k. Takes k x.held) x.kind x.kind c _ f.holds (λ allowed. allowing_takes x.kind allowed x.held f.holds);
+  }
 
   controlled_in_range : (c : Control) → InRange (controlled x c)
   unfolding controlled
   controlled_in_range c =
-      record { shows = controlled_shows x.kind c x.settings f.shows; holds = controlled_takes x.kind c x.settings x.held f.holds }
+      let but = (control_changes x c).0 in
+      record { shows = control_by Shows x.kind _ but f.shows (λ m. tt); holds = control_by (λ k. Takes k x.held) x.kind _ but f.holds (λ m. tt) }
 
   query_in_range : (q : Query) (d : ℕ) → InRange (queried x q d).instance
   unfolding queried answered

@@ -1,6 +1,6 @@
 -- Document 01, "Frames", with M-103, M-100 and M-104: what a setting command makes of the settings, of the timers and of the waiting triggers.
 -- Assumes nothing.
-use Rattle.std.specs.Prelude.{ℕ, eqb, ltb, cond, false, true}
+use Rattle.std.specs.Prelude.{ℕ, None, Option, Some, eqb, ltb, cond, false, true}
 use Rattle.opcode.specs.declared.Command.TheVariants.{Disable, Enable, SetDeadtime, SetFilter, SetHold, SetHysteresis, SetHysteresisMin, SetPriority, SetReport, SetValidFilter}
 use Rattle.opcode.specs.declared.Command.{Command}
 use Rattle.sensor.specs.Instance.{with_kind, with_settings, with_timers}
@@ -10,8 +10,6 @@ use Rattle.sensor.specs.declared.instance.Instance.{Instance}
 use Rattle.sensor.specs.declared.kind.Kind.{Kind}
 use Rattle.sensor.specs.declared.settings.Settings.{Settings}
 use Rattle.timers.specs.Timers.{started_report}
-use Rattle.timers.specs.declared.Report.TheVariants.{Left, Stopped}
-use Rattle.timers.specs.declared.Report.{Report}
 use Rattle.timers.specs.declared.Rules.{Rules}
 use Rattle.timers.specs.declared.Timers.{Timers}
 use Rattle.std.specs.Int.Bits.{bit_and}
@@ -48,9 +46,9 @@ changed s SetValidFilter d kept = bounded_filter s d kept
 
 -- ---- the timers after a command: a new time serves from the next start of its timer, with three exceptions
 -- report set to 0 stops the report timer at once; report set above 0 while stopped starts it at once
-unfoldable pub retimed_report : Report → Rules → Report
-retimed_report Stopped r = cond (eqb r.report 0) Stopped (started_report r)
-retimed_report (Left n) r = cond (eqb r.report 0) Stopped (Left n)
+unfoldable pub retimed_report : Option ℕ → Rules → Option ℕ
+retimed_report None r = cond (eqb r.report 0) None (started_report r)
+retimed_report (Some n) r = cond (eqb r.report 0) None (Some n)
 
 -- M-103, after IEC 62386-305, 9.5.3: deadtime set to 0 ends a running dead time at once, and leaves the report timer as it ran
 unfoldable pub retimed_dead : (dead : ℕ) → Rules → ℕ

@@ -1,154 +1,116 @@
 // The queries, and the latch of inputValue.
-ghost use Rattle.command.specs.Answering.{answered, byte_at, counted_up, latched, only_if, queried, status, value_of};
+ghost use Rattle.command.specs.Answering.{answered, byte_at, latched, queried, status, value_of};
 ghost use Rattle.std.specs.Prelude.{◌≡◌};
 
 use opcode::{Query, Variable};
 use sensor::{Instance, Latch};
-
-#[derive(Clone, Copy)]
-pub enum Answer {
-    None,
-    Byte(u8),
-}
 
 // What byte 3 leaves: the instance, DTR0, and what is answered.
 #[derive(Clone, Copy)]
 pub struct Acted {
     pub instance: Instance,
     pub dtr0: u8,
-    pub answer: Answer,
+    pub answer: Option<u8>,
 }
 
 // What is answered of an inputValue, and what is left of it.
 #[derive(Clone, Copy)]
 struct Piece {
-    answer: Answer,
+    answer: Option<u8>,
     latch: Latch,
 }
 
-// A query changes nothing but the latch and, where it is the colour query, DTR0.
+// A query changes nothing but the latch and, where it is the colour query, DTR0, which is the device's and comes beside
+// the instance.
+#[tactic(auto, unfolding(crate::specs::Answering::colour_answer, crate::specs::Answering::counted_up, crate::specs::Answering::only_if, crate::specs::Answering::queried))]
 pub fn queried(x: Instance, query: Query, dtr0: u8) -> Acted
     ensures { result ≡ queried x query dtr0 }
 {
-    let kind = x.kind;
-    let latch = x.latch;
     match query {
-        Query::QueryVariable(variable) => {
-            let answer = value_of(x, variable);
-            Acted {
-                instance: x,
-                dtr0,
-                answer,
-            }
-        }
-        Query::QueryValue => answered(
-            x,
-            latched(kind.input(), widen::input_bytes(kind.resolution())),
+        Query::QueryVariable(variable) => Acted {
+            instance: x,
             dtr0,
-        ),
-        Query::QueryNext => answered(x, latched(latch.bytes, latch.left), dtr0),
-        Query::QueryColourSensor => {
-            let answer = only_if(dtr0 < rgb::PARAMETERS, rgb::parameter(dtr0));
-            Acted {
-                instance: x,
-                dtr0: counted_up(dtr0),
-                answer,
-            }
+            answer: value_of(x, variable),
+        },
+        Query::QueryValue => {
+            let value = Latch {
+                left: widen::input_bytes(x.kind.resolution()),
+                bytes: x.kind.input(),
+            };
+            answered(x, latched(value), dtr0)
         }
+        Query::QueryNext => answered(x, latched(x.latch), dtr0),
+        Query::QueryColourSensor => Acted {
+            instance: x,
+            dtr0: dtr0.wrapping_add(1),
+            answer: (dtr0 < rgb::PARAMETERS).then_some(rgb::parameter(dtr0)),
+        },
     }
 }
 
 // With a byte of inputValue answered.
-fn answered(x: Instance, l: Piece, dtr0: u8) -> Acted
-    ensures { result ≡ answered x l dtr0 }
+#[tactic(auto, unfolding(crate::specs::Answering::answered))]
+fn answered(mut x: Instance, piece: Piece, dtr0: u8) -> Acted
+    ensures { result ≡ answered x piece dtr0 }
 {
-    let latch = l.latch;
-    let answer = l.answer;
-    let instance = Instance { latch, ..x };
+    x.latch = piece.latch;
     Acted {
-        instance,
+        instance: x,
         dtr0,
-        answer,
+        answer: piece.answer,
     }
 }
 
-// The top of the `left` bytes of a value, and the rest latched; none when used up.
-fn latched(bytes: u32, left: u8) -> Piece
-    ensures { result ≡ latched bytes left }
+// The top of the bytes that are left, and the rest latched; none when used up.
+#[tactic(auto, unfolding(crate::specs::Answering::latched))]
+fn latched(latch: Latch) -> Piece
+    ensures { result ≡ latched latch.bytes latch.left }
 {
-    if left == 0 {
-        return Piece {
-            answer: Answer::None,
-            latch: Latch { left: 0, bytes },
-        };
-    }
-    let rest = left - 1;
-    let top = byte_at(bytes, rest);
-    Piece {
-        answer: Answer::Byte(top),
-        latch: Latch { left: rest, bytes },
+    match latch.left.checked_sub(1) {
+        None => Piece {
+            answer: None,
+            latch,
+        },
+        Some(left) => Piece {
+            answer: Some(byte_at(latch.bytes, left)),
+            latch: Latch { left, ..latch },
+        },
     }
 }
 
-fn value_of(x: Instance, variable: Variable) -> Answer
+#[tactic(auto, unfolding(crate::specs::Answering::only_if, crate::specs::Answering::value_of))]
+fn value_of(x: Instance, variable: Variable) -> Option<u8>
     ensures { result ≡ value_of x variable }
 {
-    let kind = x.kind;
-    let settings = x.settings;
     match variable {
-        Variable::SensorType => Answer::Byte(kind.sensor_type()),
-        Variable::Resolution => Answer::Byte(kind.resolution()),
-        Variable::Error => only_if(x.failed, 1),
-        Variable::Status => Answer::Byte(status(x.failed, settings.enabled)),
-        Variable::Priority => Answer::Byte(settings.priority),
-        Variable::Enabled => only_if(settings.enabled, 0xFF),
-        Variable::Filter => Answer::Byte(settings.filter),
-        Variable::Report => Answer::Byte(settings.report),
-        Variable::Deadtime => Answer::Byte(settings.deadtime),
-        Variable::Hysteresis => Answer::Byte(settings.hysteresis),
-        Variable::HysteresisMin => Answer::Byte(settings.minimum),
-        Variable::Hold => Answer::Byte(settings.hold),
-        Variable::Catching => only_if(kind.catching(), 0xFF),
+        Variable::SensorType => Some(x.kind.sensor_type()),
+        Variable::Resolution => Some(x.kind.resolution()),
+        Variable::Error => x.failed.then_some(1),
+        Variable::Status => Some(status(x.failed, x.settings.enabled)),
+        Variable::Priority => Some(x.settings.priority),
+        Variable::Enabled => x.settings.enabled.then_some(0xFF),
+        Variable::Filter => Some(x.settings.filter),
+        Variable::Report => Some(x.settings.report),
+        Variable::Deadtime => Some(x.settings.deadtime),
+        Variable::Hysteresis => Some(x.settings.hysteresis),
+        Variable::HysteresisMin => Some(x.settings.minimum),
+        Variable::Hold => Some(x.settings.hold),
+        Variable::Catching => x.kind.catching().then_some(0xFF),
     }
-}
-
-fn only_if(said: bool, byte: u8) -> Answer
-    ensures { result ≡ only_if said byte }
-{
-    if said {
-        Answer::Byte(byte)
-    } else {
-        Answer::None
-    }
-}
-
-// One more, and 0 after 255.
-fn counted_up(dtr0: u8) -> u8
-    ensures { result ≡ counted_up dtr0 }
-{
-    if dtr0 == 255 { 0 } else { dtr0 + 1 }
 }
 
 // Bit 0 error, bit 1 enabled.
+#[tactic(auto, unfolding(crate::specs::Answering::status))]
 fn status(failed: bool, enabled: bool) -> u8
     ensures { result ≡ status failed enabled }
 {
-    if failed {
-        if enabled { 3 } else { 1 }
-    } else {
-        if enabled { 2 } else { 0 }
-    }
+    u8::from(failed) + 2 * u8::from(enabled)
 }
 
 // Byte k of a value, counted from the lowest.
+#[tactic(auto, unfolding(crate::specs::Answering::byte_at))]
 fn byte_at(v: u32, k: u8) -> u8
     ensures { result ≡ byte_at v k }
 {
-    match k {
-        0 => (v % 256) as u8,
-        1 => (v / 256 % 256) as u8,
-        2 => (v / 65536 % 256) as u8,
-        3 => (v / 16777216 % 256) as u8,
-        _ => 0,
-    }
+    v.to_le_bytes().get(usize::from(k)).copied().unwrap_or(0)
 }

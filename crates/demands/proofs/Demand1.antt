@@ -30,13 +30,14 @@ use Rattle.device.specs.declared.model.Model.{Model}
 use Rattle.judging.proofs.Asking.{number_refused}
 use Rattle.judging.specs.Asked.{asked}
 use Rattle.judging.specs.Refusals.{every_number, number_of, refusal_numbers}
-use Rattle.judging.specs.declared.asked.Asked.TheVariants.{Frame, Refused, Ticks}
+use Rattle.judging.specs.declared.asked.Asked.TheVariants.{Frame, Ticks}
 use Rattle.judging.specs.declared.asked.Refusal.TheVariants.{Full}
 use Rattle.judging.specs.declared.asked.Refusal.{Refusal}
 use Rattle.record.specs.Log.{AllBytes, Logged, UpTo, bytes_of}
 use Rattle.sensor.specs.declared.sensors.Sensor.{Sensor}
 use Rattle.session.proofs.Bounds.{reading_within, session_within}
 use Rattle.session.specs.Session.{End, reading, refused, session, step}
+use Rattle.std.specs.Prelude.{Err, Ok}
 use lib.ListN.{drop, length}
 use mathlib.Core.Bool.{false, ◌||◌}
 use mathlib.Core.List.{List, ◌++◌}
@@ -120,7 +121,7 @@ number_of_refusal = number_refused
 -- ---- "Given exactly when": each number of the table, of the record at the front of `rest`
 -- all but 9, in the table's order: `Given` is the row, with none of the earlier ones
 pub number_exactly : (rest : List ℕ) (m : Model) → AllBytes rest → (why : Refusal)
-    → (asked rest m ≡ Refused why → Given why rest m) × (Given why rest m → asked rest m ≡ Refused why)
+    → (asked rest m ≡ Err why → Given why rest m) × (Given why rest m → asked rest m ≡ Err why)
 number_exactly rest m bytes why = (holds_given rest m bytes why, given rest m bytes why)
 
 -- and so where a session stands: the number is given there, and nothing changes
@@ -142,16 +143,16 @@ measured_by_samples = session_measured
 
 -- 9 of one answer
 pub nine_of_answer : (first second third room : ℕ) (m : Model) (log : List Logged)
-    → (NoRoom room log (frame_log m first second third) → step (Frame first second third) room m log ≡ refused Full 0 m log)
-    × (step (Frame first second third) room m log ≡ refused Full 0 m log → NoRoom room log (frame_log m first second third))
+    → (NoRoom room log (frame_log m first second third) → step (Ok (Frame first second third)) room m log ≡ refused Full 0 m log)
+    × (step (Ok (Frame first second third)) room m log ≡ refused Full 0 m log → NoRoom room log (frame_log m first second third))
 nine_of_answer first second third room m log = (answer_full first second third room m log, full_answer first second third room m log)
 
 -- 9 of the records of one tick: t of the n ticks fit and stand, the next does not fit and does nothing
 pub nine_of_tick : (n t room : ℕ) (m : Model) (log : List Logged) → t < n → Fitted t room m log → NoRoomAfter t room m log
-    → step (Ticks n) room m log ≡ refused Full t (ticked_model t m) (ticked_log t m log)
+    → step (Ok (Ticks n)) room m log ≡ refused Full t (ticked_model t m) (ticked_log t m log)
 nine_of_tick = tick_full
 
 pub tick_of_nine : (n room : ℕ) (m : Model) (log : List Logged) {why : Refusal} {t : ℕ} {m' : Model} {log' : List Logged}
-    → step (Ticks n) room m log ≡ refused why t m' log'
+    → step (Ok (Ticks n)) room m log ≡ refused why t m' log'
     → (t < n) × Fitted t room m log × NoRoomAfter t room m log × (why ≡ Full) × (m' ≡ ticked_model t m) × (log' ≡ ticked_log t m log)
 tick_of_nine = full_tick

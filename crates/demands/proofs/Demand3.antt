@@ -28,10 +28,10 @@ use Rattle.sensor.specs.declared.colour.Colour as colours
 use Rattle.sensor.specs.declared.kind.Kind.TheVariants.{Colour, Light}
 use Rattle.sensor.specs.declared.light.Light as lights
 use Rattle.sensor.specs.declared.sensors.Sensor.{Sensor}
+use Rattle.std.specs.Prelude.{Some}
 use Rattle.timers.proofs.Pace.{hour_255_255, hour_30_600}
 use Rattle.timers.specs.Pace.{Paced}
 use Rattle.timers.specs.Timers.{dead_time, report_time, started}
-use Rattle.timers.specs.declared.Report.TheVariants.{Left}
 use lib.ListN.{length}
 use mathlib.Core.Bool.{true}
 use mathlib.Core.List.{List, Memᴰ}
@@ -116,6 +116,6 @@ module _ {m₀ : Model} {calls : List Call} {i : ℕ} {sensor : Sensor} (s : Sta
 -- at least), whatever happens but a setting command for it.
 pub first_due : (i : ℕ) (m : Model) (k : ℕ) → Present i m → (instance_at m i).settings.enabled ≡ true
     → repeat (instance_at m i).kind (instance_at m i).settings ≡ true
-    → (instance_at m i).timers.report ≡ Left k → (instance_at m i).timers.dead ≤ k → (hs : List Happening) → Undisturbed i m hs → max k 1 ≤ ticks_in hs
+    → (instance_at m i).timers.report ≡ Some k → (instance_at m i).timers.dead ≤ k → (hs : List Happening) → Undisturbed i m hs → max k 1 ≤ ticks_in hs
     → (e : ℕ) × Memᴰ e (events_of i (log_after m hs)) × (m.tick < e) × (e ≤ m.tick + max k 1)
 first_due = first_run

@@ -13,10 +13,10 @@ use Rattle.demands.specs.Pairs.{FirstHalf, NoFrame}
 use Rattle.demands.specs.Window.{Calm, Undisturbed, sets_it}
 use Rattle.device.proofs.Laws.{frame_acts, frame_answers, frame_first, frame_ignored, frame_loads, frame_repeats, numbered_silent}
 use Rattle.device.specs.Device.{instance_at, known, under_way, with_remembered}
-use Rattle.device.specs.Frame.{again, counts, forgetting, frame_log, frame_model, loads, numbered_model, remembering, repeats, sets}
+use Rattle.device.specs.Frame.{again, counts, first_of, forgetting, frame_log, frame_model, loads, numbered_model, remembering, repeats, sets}
 use Rattle.device.specs.declared.model.Model.{Model}
-use Rattle.device.specs.declared.pairs.Remembered.TheVariants.{First, Nothing}
-use Rattle.device.specs.declared.pairs.Remembered.{Remembered}
+use Rattle.device.specs.declared.pairs.First.{First}
+use Rattle.std.specs.Prelude.{None, Option}
 use borrow.Author.Tests.{eq-eqb, le-leb, leb-false, leb-true, lt-leb}
 use lib.Dec.{eqb, leb}
 use mathlib.Core.Bool.{Bool, cond, false, not, true, ◌&&◌}
@@ -28,34 +28,34 @@ use native.Mathlib.Omega.{arith}
 -- remembered one"; so does the repeat
 pub remembered_after : (m : Model) (first second third : ℕ)
     → (frame_model m first second third).remembered
-    ≡ cond (counts m first second && (sets m second third && not (again m first second third))) (First first second third m.tick) Nothing
+    ≡ cond (counts m first second && (sets m second third && not (again m first second third))) (first_of first second third m.tick) None
 unfolding numbered_model
 remembered_after m first second third = go (counts m first second) refl (sets m second third) refl (again m first second third) refl
   where
-    next : Model → Remembered
+    next : Model → Option First
     next x = x.remembered
 
-    other : counts m first second ≡ false → next (frame_model m first second third) ≡ Nothing
+    other : counts m first second ≡ false → next (frame_model m first second third) ≡ None
     other c = by (loads first second) refl
       where
-        by : (l : Bool) → loads first second ≡ l → next (frame_model m first second third) ≡ Nothing
+        by : (l : Bool) → loads first second ≡ l → next (frame_model m first second third) ≡ None
         by true l = ap next (frame_loads m first second third l).0
         by false l = ap next (frame_ignored m first second third l c).0
 
     go : (c : Bool) → counts m first second ≡ c → (s : Bool) → sets m second third ≡ s → (r : Bool) → again m first second third ≡ r
-        → next (frame_model m first second third) ≡ cond (c && (s && not r)) (First first second third m.tick) Nothing
+        → next (frame_model m first second third) ≡ cond (c && (s && not r)) (first_of first second third m.tick) None
     go false c s t r u = other c
     go true c false t r u = ap next (frame_acts m first second third (counts_loads m first second c) c t)
     go true c true t true u = ap next (frame_repeats m first second third (counts_loads m first second c) c t u)
     go true c true t false u = ap next (frame_first m first second third (counts_loads m first second c) c t u)
 
 -- from a device that remembers nothing no frame is a repeat
-pub nothing_repeats : (m : Model) (first second third : ℕ) → m.remembered ≡ Nothing → again m first second third ≡ false
+pub nothing_repeats : (m : Model) (first second third : ℕ) → m.remembered ≡ None → again m first second third ≡ false
 unfolding repeats
 nothing_repeats m first second third e = ap (λ r. repeats r m.tick first second third) e
 
 -- the same frame is the repeat for 2 ticks
-same_again : (first second third t n : ℕ) → repeats (First first second third t) (t + n) first second third ≡ leb n 2
+same_again : (first second third t n : ℕ) → repeats (first_of first second third t) (t + n) first second third ≡ leb n 2
 unfolding repeats
 same_again first second third t n = rw (eq-eqb first first refl, eq-eqb second second refl, eq-eqb third third refl) (by (leb n 2) refl)
   where
@@ -123,7 +123,7 @@ half_in_window i m (h ∷ hs) first second third later u e w = (u.0, half_in_win
 
 -- ---- TWICE IN A ROW: from a device that remembers nothing the same setting frame twice leaves what the command by itself used to leave, and
 -- remembers nothing
-module _ (m : Model) (first second third : ℕ) (c : counts m first second ≡ true) (s : sets m second third ≡ true) (e : m.remembered ≡ Nothing) where
+module _ (m : Model) (first second third : ℕ) (c : counts m first second ≡ true) (s : sets m second third ≡ true) (e : m.remembered ≡ None) where
   half : FirstHalf m first second third
   half = record { counted = c; setting = s; new = nothing_repeats m first second third e }
 
@@ -143,7 +143,7 @@ module _ (m : Model) (first second third : ℕ) (c : counts m first second ≡ t
       here : again once first second third ≡ true
       here = rw (eq-eqb first first refl, eq-eqb second second refl, eq-eqb third third refl) (le-leb m.tick (m.tick + 2) (omega arith))
 
-  pub twice_forgotten : twice.remembered ≡ Nothing
+  pub twice_forgotten : twice.remembered ≡ None
   unfolding numbered_model
   twice_forgotten = ap (λ x. x.remembered) twice_as_once ∙ e
 
@@ -154,7 +154,7 @@ module _ (m : Model) (first second third : ℕ) (c : counts m first second ≡ t
 -- ---- DEMAND 1: a first half that was taken is remembered over whatever is refused behind it, and from one call to the next
 pub half_stands : (m : Model) (calls : List Call) (before between : List Happening) (first second third : ℕ)
     → carried_out m calls ≡ before ++ (frame first second third ∷ between) → FirstHalf (model_after m before) first second third → NoFrame between
-    → (model_left m calls).remembered ≡ First first second third (model_after m before).tick
+    → (model_left m calls).remembered ≡ first_of first second third (model_after m before).tick
 unfolding model_after
 half_stands m calls before between first second third e f none =
     ap (λ x. x.remembered) (calls_model m calls ∙ ap (model_after m) e ∙ model_append m before (frame first second third ∷ between))

@@ -1,11 +1,12 @@
 -- A session as what happened in it, one thing after another: the declarations, samples, frames and ticks that were carried out.
 -- Assumes nothing.
-use Rattle.std.specs.Prelude.{ℕ, zero, suc, ◌-◌, drop, length, replicate, List, [], ◌++◌, ◌∷◌}
+use Rattle.judging.specs.declared.asked.Refusal.{Refusal}
+use Rattle.std.specs.Prelude.{ℕ, zero, suc, ◌-◌, drop, length, replicate, List, [], ◌++◌, ◌∷◌, Err, Ok, Result}
 use Rattle.device.specs.Device.{declared_model, held_model}
 use Rattle.device.specs.Frame.{frame_log, frame_model}
 use Rattle.device.specs.declared.model.Model.{Model}
 use Rattle.judging.specs.Asked.{asked, size_of}
-use Rattle.judging.specs.declared.asked.Asked.TheVariants.{Declare, Frame, Hold, Refused, Ticks}
+use Rattle.judging.specs.declared.asked.Asked.TheVariants.{Declare, Frame, Hold, Ticks}
 use Rattle.judging.specs.declared.asked.Asked.{Asked}
 use Rattle.record.specs.Log.{Logged, bytes_of}
 use Rattle.sensor.specs.declared.sensors.Sensor.{Sensor}
@@ -50,12 +51,12 @@ ticks_in (tick ∷ hs) = suc (ticks_in hs)
 
 -- ---- what a session carried out
 -- what a record that is taken asks for
-abbrev pub asks_for : Asked → List Happening
-asks_for (Refused why) = []
-asks_for (Declare sensor) = declare sensor ∷ []
-asks_for (Hold i sample) = hold i sample ∷ []
-asks_for (Frame first second third) = frame first second third ∷ []
-asks_for (Ticks n) = replicate n tick
+abbrev pub asks_for : Result Asked Refusal → List Happening
+asks_for (Err why) = []
+asks_for (Ok (Declare sensor)) = declare sensor ∷ []
+asks_for (Ok (Hold i sample)) = hold i sample ∷ []
+asks_for (Ok (Frame first second third)) = frame first second third ∷ []
+asks_for (Ok (Ticks n)) = replicate n tick
 
 -- of at most so many records: of each that is taken what it asks for, and of a refused one its ticks that were carried out
 unfoldable pub carried_in : (most : ℕ) → (rest : List ℕ) → (room : ℕ) → Model → List Happening

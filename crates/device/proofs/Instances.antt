@@ -3,8 +3,6 @@
 use Prim.Native.Nat.{ℕ, ◌<◌, ◌≤◌}
 use Rattle.command.proofs.Measured.{act_measured}
 use Rattle.command.specs.Answering.{ButLatch}
-use Rattle.command.specs.declared.answering.Answer.TheVariants.{Byte, None}
-use Rattle.command.specs.declared.answering.Answer.{Answer}
 use Rattle.device.proofs.Laws.{declared_full, declared_next, frame_by, numbered_other}
 use Rattle.device.specs.Device.{declared_model, held_model, instance_at}
 use Rattle.device.specs.Frame.{acted_at, answer_log, counts, frame_log, frame_model, loads, numbered_log, numbered_model}
@@ -16,6 +14,7 @@ use Rattle.sensor.specs.Tick.{holding}
 use Rattle.sensor.specs.declared.instance.Instance.{Instance}
 use Rattle.sensor.specs.declared.sensors.Sensor.{Sensor}
 use Rattle.sensor.specs.declared.settings.Sample.{Sample}
+use Rattle.std.specs.Prelude.{Option, Some, None}
 use lib.ListN.{length}
 use lib.Seq.{get_or-set_same, set_out}
 use mathlib.Core.Bool.{Bool, cond, false, true}
@@ -61,10 +60,10 @@ frame_measured m first second third i = frame_by m first second third (λ x. (in
         rw (sym same) (numbered_by (λ x. x.measured ≡ (instance_at m i).measured) m i third refl (act_measured (instance_at m i) third m.dtr0))
 
 -- one answer is short
-answer_most : (t i : ℕ) (a : Answer) → length (bytes_of (answer_log t i a)) ≤ answer_size
+answer_most : (t i : ℕ) (a : Option ℕ) → length (bytes_of (answer_log t i a)) ≤ answer_size
 unfolding answer_log bytes_of encoded
 answer_most t i None = omega arith
-answer_most t i (Byte b) = omega arith
+answer_most t i (Some b) = omega arith
 
 pub frame_most : (m : Model) (first second third : ℕ) → length (bytes_of (frame_log m first second third)) ≤ answer_size
 unfolding frame_log numbered_log bytes_of

@@ -1,12 +1,13 @@
 -- The laws of the device, for the crates above: what each change does to one instance, and what it keeps.
 -- Assumes nothing.
-use Prim.Native.Nat.{ℕ, ◌+◌, ◌<◌, ◌≤◌}
+use Prim.Native.Nat.{ℕ, min, ◌+◌, ◌<◌, ◌≤◌}
 use Rattle.command.proofs.Laws.{dtr0_counted, dtr0_left, setting_silent}
 use Rattle.command.specs.Answering.{counted_up}
-use Rattle.device.specs.Device.{under_way, declared_model, fresh, held_model, instance_at, known, offered, with_declared, with_dtr0, with_instance}
+use Rattle.device.specs.Device.{Offered, came, under_way, declared_instances, declared_model, fresh, held_model, instance_at, instance_of, known, offered, with_declared, with_dtr0, with_instance}
 use Rattle.device.specs.Frame.{acted_at, again, answer_log, as_repeat, counts, forgetting, frame_log, frame_model, heeded, judged, loads, numbered_log, numbered_model, remembering, sets}
 use Rattle.device.specs.declared.judged.Judged.TheVariants.{Acts, Load, Nobody, Sets}
 use Rattle.device.specs.declared.judged.Judged.{Judged}
+use Rattle.device.specs.declared.model.Full.{Full}
 use Rattle.device.specs.declared.model.Model.{Model}
 use Rattle.opcode.proofs.Opcodes.{up_sets_nothing}
 use Rattle.opcode.specs.Meaning.{counts_up, meant}
@@ -14,16 +15,23 @@ use Rattle.record.specs.Log.{Logged, bytes_of}
 use Rattle.sensor.proofs.Laws.{both}
 use Rattle.sensor.specs.Fresh as sensors
 use Rattle.sensor.specs.Tick.{holding}
+use Rattle.sensor.specs.declared.instance.Instance.{Instance}
 use Rattle.sensor.specs.declared.sensors.Sensor.{Sensor}
 use Rattle.sensor.specs.declared.settings.Sample.{Sample}
 use borrow.Author.Tests.{le-leb, le-ltb, lt-leb, lt-ltb, ltb-true}
 use lib.Dec.{eqb, ltb}
-use lib.ListN.{get_or, length, length-set}
+use Rattle.std.proofs.lemmas.List.{get_or-take}
+use Rattle.std.proofs.lemmas.Option.{slice_get_past, slice_get_read, slice_get-get_or}
+use Rattle.std.specs.Prelude.{Err, None, Ok, Option, Result, Some, option_copied, slice_get}
+use Rattle.std.specs.Slice.{IsItemAt}
+use denote.Ref.{Bor}
+use lib.ListN.{get_or, length, length-map, length-set, length-take, take}
 use lib.Seq.{get_or-set_other, get_or-set_same}
-use mathlib.Core.Bool.{Bool, cond, false, true, ◌&&◌, ◌||◌}
-use mathlib.Core.List.{List, []}
+use mathlib.Core.Bool.{Bool, cond, false, true, true≢false, ◌&&◌, ◌||◌}
+use mathlib.Core.List.{List, [], map}
 use mathlib.Core.Logic.{◌≢◌}
-use mathlib.Core.Path.{ap, refl, ◌≡◌, ◌∙◌}
+use mathlib.Core.Path.{ap, refl, sym, ◌≡◌, ◌∙◌}
+use native.Mathlib.Decide.{dec_lt}
 use native.Mathlib.Omega.{arith}
 
 -- ---- what logs
@@ -38,6 +46,13 @@ module _ (m after : Model) (log : List Logged) (room : ℕ) where
   pub offered_full : room < length (bytes_of log) → offered m after log room ≡ record { model = m; written = 0; fits = false }
   unfolding offered
   offered_full h = rw (lt-leb (length (bytes_of log)) room h)
+
+-- what came of a change says what the device is after it, and what is handed back
+pub came_once : (m m' : Model) (r r' : Result ℕ Full) → came m r ≡ came m' r' → (m ≡ m') × (r ≡ r')
+came_once m m' (Ok n) (Ok n') e = (ap (λ (o : Offered). o.model) e, ap (λ (o : Offered). Ok o.written) e)
+came_once m m' (Ok n) (Err full) e = absurd (true≢false (ap (λ (o : Offered). o.fits) e))
+came_once m m' (Err full) (Ok n) e = absurd (true≢false (sym (ap (λ (o : Offered). o.fits) e)))
+came_once m m' (Err full) (Err full') e = (ap (λ (o : Offered). o.model) e, refl)
 
 -- ---- who is declared
 pub known_below : (m : Model) (i : ℕ) → known m i ≡ true → (i < m.declared) × (i < 16)
@@ -54,6 +69,52 @@ below_known m i h w = rw (lt-ltb i m.declared h, lt-ltb i 16 w)
 pub known_kept : (m m' : Model) (i : ℕ) → m'.declared ≡ m.declared → known m' i ≡ known m i
 unfolding known
 known_kept m m' i e = rw e
+
+-- `search (rules, long)` finds that an array of structs has its length
+pub long : (X Y : Type 0) (f : X → Y) (l : List X) (n : ℕ) → length (map f l) ≡ n → length l ≡ n
+long X Y f l n e = sym (length-map l f) ∙ e
+
+-- what `get` lends is what stands there
+pub copied : {X : Type 0} (xs : List X) (i : ℕ) (r : Option (Bor X)) → IsItemAt xs i r → option_copied r ≡ slice_get xs i
+copied xs i None got = sym (slice_get_past xs i got.3)
+copied xs i (Some x) got = sym (slice_get_read xs (length xs) i x.now refl got.3.0 got.1)
+
+-- who is declared, by number
+instance_listed_lem : (m : Model) (i : ℕ) → length m.instances ≡ 16 → slice_get (take m.declared m.instances) i ≡ instance_of m i
+unfolding instance_of known instance_at
+instance_listed_lem m i all = go (dec_lt i m.declared) (dec_lt i 16)
+  where
+    long : length (take m.declared m.instances) ≡ min m.declared (length m.instances)
+    long = length-take m.declared m.instances
+
+    go : Dec (i < m.declared) → Dec (i < 16)
+        → slice_get (take m.declared m.instances) i ≡ cond (ltb i m.declared && ltb i 16) (Some (get_or m.instances i sensors.blank)) None
+    go (yes h) (yes w) =
+        rw (lt-ltb i m.declared h, lt-ltb i 16 w)
+        (slice_get-get_or (take m.declared m.instances) i sensors.blank (omega (arith, long)) ∙ ap Some (get_or-take m.declared m.instances i sensors.blank h))
+    go (yes h) (no w) = rw (lt-ltb i m.declared h, le-ltb i 16 (omega arith)) (slice_get_past (take m.declared m.instances) i (omega (arith, long)))
+    go (no h) w = rw (le-ltb i m.declared (omega arith)) (slice_get_past (take m.declared m.instances) i (omega (arith, long)))
+
+pub instance_listed : (m : Model) (i : ℕ) → length m.instances ≡ 16 → slice_get (declared_instances m) i ≡ instance_of m i
+unfolding declared_instances
+instance_listed m i all = instance_listed_lem m i all
+
+module _ (m : Model) (i : ℕ) where
+  pub instance_some : {x : Instance} → Some x ≡ instance_of m i → (known m i ≡ true) × (x ≡ instance_at m i)
+  unfolding instance_of
+  instance_some {x} e = go (known m i) refl e
+    where
+      go : (k : Bool) → known m i ≡ k → ◌≡◌ {A = Option Instance} (Some x) (cond k (Some (instance_at m i)) None) → (known m i ≡ true) × (x ≡ instance_at m i)
+      go true k p = (k, cc)
+      go false k p = absurd cc
+
+  pub instance_none : None ≡ instance_of m i → known m i ≡ false
+  unfolding instance_of
+  instance_none e = go (known m i) refl e
+    where
+      go : (k : Bool) → known m i ≡ k → ◌≡◌ {A = Option Instance} None (cond k (Some (instance_at m i)) None) → known m i ≡ false
+      go true k p = absurd cc
+      go false k p = k
 
 pub fresh_length : length fresh.instances ≡ 16
 unfolding fresh

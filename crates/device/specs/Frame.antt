@@ -1,16 +1,13 @@
 -- Document 01, "Frames", with M-104 and M-105: whom a frame counts for, whether it needs its repeat, what it does to the device, and what it logs.
 -- Assumes nothing.
-use Rattle.std.specs.Prelude.{ℕ, ◌+◌, eqb, leb, Bool, cond, false, ◌&&◌, ◌||◌, List, [], ◌∷◌}
+use Rattle.std.specs.Prelude.{ℕ, ◌+◌, eqb, leb, Bool, cond, false, ◌&&◌, ◌||◌, List, [], ◌∷◌, Option, Some, None}
 use Rattle.command.specs.Answering.{acted}
 use Rattle.command.specs.declared.answering.Acted.{Acted}
-use Rattle.command.specs.declared.answering.Answer.TheVariants.{Byte, None}
-use Rattle.command.specs.declared.answering.Answer.{Answer}
 use Rattle.device.specs.Device.{under_way, instance_at, known, with_dtr0, with_instance, with_remembered}
 use Rattle.device.specs.declared.judged.Judged.TheVariants.{Acts, Load, Nobody, Sets}
 use Rattle.device.specs.declared.judged.Judged.{Judged}
 use Rattle.device.specs.declared.model.Model.{Model}
-use Rattle.device.specs.declared.pairs.Remembered.TheVariants.{First, Nothing}
-use Rattle.device.specs.declared.pairs.Remembered.{Remembered}
+use Rattle.device.specs.declared.pairs.First.{First}
 use Rattle.opcode.specs.Meaning.{is_setting, meant}
 use Rattle.record.specs.Log.{AN, Logged}
 
@@ -34,9 +31,9 @@ unfoldable pub numbered_model : Model → (i opcode : ℕ) → Model
 numbered_model m i opcode = under_way (put_back i (acted_at m i opcode) m)
 
 -- the record of an answer
-unfoldable pub answer_log : (tick i : ℕ) → Answer → List Logged
+unfoldable pub answer_log : (tick i : ℕ) → Option ℕ → List Logged
 answer_log tick i None = []
-answer_log tick i (Byte b) = AN tick i b ∷ []
+answer_log tick i (Some b) = AN tick i b ∷ []
 
 unfoldable pub numbered_log : Model → (i opcode : ℕ) → List Logged
 numbered_log m i opcode = answer_log m.tick i (acted_at m i opcode).answer
@@ -56,20 +53,25 @@ judged m first second third =
     (cond (counts m first second) (cond (sets m second third) (Sets second) (Acts second)) Nobody)
 
 -- the repeat: the same three bytes as the frame that is remembered, no more than 2 ticks later
-unfoldable pub repeats : Remembered → (tick first second third : ℕ) → Bool
-repeats Nothing tick first second third = false
-repeats (First a b c t) tick first second third = ((eqb first a && eqb second b) && eqb third c) && leb tick (t + 2)
+unfoldable pub repeats : Option First → (tick first second third : ℕ) → Bool
+repeats None tick first second third = false
+repeats (Some x) tick first second third =
+    ((eqb first x.frame.first && eqb second x.frame.second) && eqb third x.frame.third) && leb tick (x.tick + 2)
 
 abbrev pub again : Model → (first second third : ℕ) → Bool
 again m first second third = repeats m.remembered m.tick first second third
 
--- the first of a pair is remembered, with its tick
+-- the first of a pair, with its tick
+abbrev pub first_of : (first second third tick : ℕ) → Option First
+first_of first second third tick = Some (record { frame = record { first = first; second = second; third = third }; tick = tick })
+
+-- it is remembered
 abbrev pub remembering : (first second third : ℕ) → Model → Model
-remembering first second third m = with_remembered (First first second third m.tick) m
+remembering first second third m = with_remembered (first_of first second third m.tick) m
 
 -- the repeat is forgotten, and any other frame drops what is remembered
 abbrev pub forgetting : Model → Model
-forgetting m = with_remembered Nothing m
+forgetting m = with_remembered None m
 
 -- a setting command that is the repeat acts
 unfoldable pub as_repeat : Judged → (repeat : Bool) → Judged

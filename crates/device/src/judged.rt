@@ -2,9 +2,11 @@
 ghost use Rattle.device.specs.Frame.{as_repeat, judged};
 ghost use Rattle.std.specs.Prelude.{◌≡◌};
 
-use crate::model::{Model, known};
+use crate::model::Model;
+use crate::pairs::Frame;
 
-// Whom a frame counts for, what it means there, and so whether it needs its repeat.
+// Whom a frame counts for, what it means there, and so whether it needs its repeat. That it is nobody is one of four
+// answers: an Option around the other three would be asked for twice.
 #[derive(Clone, Copy)]
 pub enum Judged {
     // It loads DTR0.
@@ -19,37 +21,31 @@ pub enum Judged {
 
 impl Judged {
     // A setting command that is the repeat acts.
+    #[tactic(auto, unfolding(crate::specs::Frame::as_repeat))]
     pub fn as_repeat(self, repeat: bool) -> Judged
         ensures { result ≡ as_repeat self repeat }
     {
         match self {
-            Judged::Load => Judged::Load,
-            Judged::Sets(instance) => {
-                if repeat {
-                    return Judged::Acts(instance);
-                }
-                Judged::Sets(instance)
-            }
-            Judged::Acts(instance) => Judged::Acts(instance),
-            Judged::Nobody => Judged::Nobody,
+            Judged::Sets(instance) if repeat => Judged::Acts(instance),
+            other => other,
         }
     }
 }
 
-pub fn judge(model: Model, first: u8, second: u8, third: u8) -> Judged
-    ensures { result ≡ judged model first second third }
+#[tactic(auto, using(crate::proofs::Laws::instance_none), unfolding(crate::specs::Frame::judged, crate::specs::Frame::counts))]
+pub fn judge(model: &Model, frame: Frame) -> Judged
+    ensures { result ≡ judged model.now frame.first frame.second frame.third }
 {
-    if (first == 0xC1) & (second == 0x30) {
+    if frame.loads() {
         return Judged::Load;
     }
-    if ((first == 0x01) | (first == 0xFF)) & known(model, second) {
-        let i = second as usize;
-        let x = model.instances[i];
-        let kind = x.kind;
-        if opcode::is_setting(opcode::meant(kind, third)) {
-            return Judged::Sets(second);
-        }
-        return Judged::Acts(second);
+    if !frame.names_instance() {
+        return Judged::Nobody;
     }
-    Judged::Nobody
+    let number = frame.second;
+    match model.instance(number) {
+        None => Judged::Nobody,
+        Some(x) if opcode::is_setting(opcode::meant(x.kind, frame.third)) => Judged::Sets(number),
+        Some(_) => Judged::Acts(number),
+    }
 }

@@ -6,20 +6,19 @@ use Rattle.device.specs.Device.{allowed, instance_at, known}
 use Rattle.device.specs.declared.model.Model.{Model}
 use Rattle.judging.specs.Asked.{asked, asked_by, declare_asked, declared_in, frame_asked, sample_asked, sample_in, sensor_asked, size_of, ticks_asked}
 use Rattle.judging.specs.Refusals.{number_of, refusal_numbers}
-use Rattle.judging.specs.declared.asked.Asked.TheVariants.{Declare, Frame, Hold, Refused, Ticks}
+use Rattle.judging.specs.declared.asked.Asked.TheVariants.{Declare, Frame, Hold, Ticks}
 use Rattle.judging.specs.declared.asked.Asked.{Asked}
 use Rattle.judging.specs.declared.asked.Refusal.TheVariants.{BadSample, BeyondTable, Cut, Full, LateOrSkipped, NoSuchSensor, NoTicks, NotReadyAgain, TimeOver, Undeclared, UnknownMark}
 use Rattle.judging.specs.declared.asked.Refusal.{Refusal}
-use Rattle.judging.specs.declared.declaring.Declares.TheVariants.{Nothing, One}
-use Rattle.judging.specs.declared.declaring.Declares.{Declares}
 use Rattle.record.proofs.Bytes.{all_below}
 use Rattle.record.specs.Log.{AllBytes}
 use Rattle.record.specs.Marks.{mark_of, mark_size}
 use Rattle.record.specs.Numbers.{byte, word}
-use Rattle.record.specs.declared.marks.Mark.TheVariants.{Bus, Declaration, Measurement, Time, Unknown}
+use Rattle.record.specs.declared.marks.Mark.TheVariants.{Bus, Declaration, Measurement, Time}
 use Rattle.record.specs.declared.marks.Mark.{Mark}
 use Rattle.sensor.specs.Tick.{goes_back}
 use Rattle.sensor.specs.declared.sensors.Sensor.{Sensor}
+use Rattle.std.specs.Prelude.{Err, None, Ok, Option, Result, Some}
 use borrow.Author.Tests.{le-ltb, ltb-false}
 use lib.Dec.{eqb, ltb}
 use lib.ListN.{get_or-append, length, length-append, take}
@@ -54,14 +53,15 @@ cut size xs ys h =
     }
 
 -- what a record takes, by its mark; one of no known mark, that
-abbrev size_at : Mark → ℕ
-size_at k = max 2 (mark_size k)
+abbrev size_at : Option Mark → ℕ
+size_at None = 2
+size_at (Some k) = max 2 (mark_size k)
 
 module _ (m : Model) (p q : List ℕ) where
-  alike : (k : Mark) → Agree (size_at k) p q → asked_by k p m ≡ asked_by k q m
+  alike : (k : Option Mark) → Agree (size_at k) p q → asked_by k p m ≡ asked_by k q m
   unfolding asked_by declare_asked sample_asked frame_asked ticks_asked
-  alike Unknown a = refl
-  alike Declaration a =
+  alike None a = refl
+  alike (Some Declaration) a =
       rw (
         le-ltb (length p) (mark_size Declaration) a.long,
         le-ltb (length q) (mark_size Declaration) a.long',
@@ -71,7 +71,7 @@ module _ (m : Model) (p q : List ℕ) where
         a.same 3 (omega arith),
         a.same 4 (omega arith),
       )
-  alike Measurement a =
+  alike (Some Measurement) a =
       rw (
         le-ltb (length p) (mark_size Measurement) a.long,
         le-ltb (length q) (mark_size Measurement) a.long',
@@ -81,7 +81,7 @@ module _ (m : Model) (p q : List ℕ) where
         a.same 5 (omega arith),
         a.same 6 (omega arith),
       )
-  alike Bus a =
+  alike (Some Bus) a =
       rw (
         le-ltb (length p) (mark_size Bus) a.long,
         le-ltb (length q) (mark_size Bus) a.long',
@@ -89,7 +89,7 @@ module _ (m : Model) (p q : List ℕ) where
         a.same 3 (omega arith),
         a.same 4 (omega arith),
       )
-  alike Time a =
+  alike (Some Time) a =
       rw (
         le-ltb (length p) (mark_size Time) a.long,
         le-ltb (length q) (mark_size Time) a.long',
@@ -98,48 +98,48 @@ module _ (m : Model) (p q : List ℕ) where
       )
 
 -- a record that is taken has its kind's size
-abbrev Sized : (size : ℕ) → Asked → Type 0
+abbrev Sized : (size : ℕ) → Result Asked Refusal → Type 0
 Sized size a = (size_of a ≡ 0) ⊎ (size_of a ≡ size)
 
 -- what holds either way of a test
-by_test : (P : Asked → Type 0) (b : Bool) (x y : Asked) → P x → P y → P (cond b x y)
+by_test : (P : Result Asked Refusal → Type 0) (b : Bool) (x y : Result Asked Refusal) → P x → P y → P (cond b x y)
 by_test P true x y p q = p
 by_test P false x y p q = q
 
 -- and of what is declared
-by_sensor : (P : Asked → Type 0) (d : Declares) → ((sensor : Sensor) → P (Declare sensor)) → P (Refused NoSuchSensor) → P (sensor_asked d)
-by_sensor P Nothing one none = none
-by_sensor P (One sensor) one none = one sensor
+by_sensor : (P : Result Asked Refusal → Type 0) (d : Option Sensor) → ((sensor : Sensor) → P (Ok (Declare sensor))) → P (Err NoSuchSensor) → P (sensor_asked d)
+by_sensor P None one none = none
+by_sensor P (Some sensor) one none = one sensor
 
 -- and one that is not cut is whole
-abbrev Whole : (size long : ℕ) → Asked → Type 0
-Whole size long a = (a ≡ Refused Cut) ⊎ ((size ≤ long) × Sized size a)
+abbrev Whole : (size long : ℕ) → Result Asked Refusal → Type 0
+Whole size long a = (a ≡ Err Cut) ⊎ ((size ≤ long) × Sized size a)
 
-whole_if : (size long : ℕ) (a : Asked) → Sized size a → Whole size long (cond (ltb long size) (Refused Cut) a)
+whole_if : (size long : ℕ) (a : Result Asked Refusal) → Sized size a → Whole size long (cond (ltb long size) (Err Cut) a)
 whole_if size long a s = go (ltb long size) refl
   where
-    go : (b : Bool) → ltb long size ≡ b → Whole size long (cond b (Refused Cut) a)
+    go : (b : Bool) → ltb long size ≡ b → Whole size long (cond b (Err Cut) a)
     go true e = inl refl
     go false e = inr (ltb-false long size e, s)
 
 module _ (rest : List ℕ) (m : Model) (l : 2 ≤ length rest) where
-  whole_by : (k : Mark) → Whole (size_at k) (length rest) (asked_by k rest m)
+  whole_by : (k : Option Mark) → Whole (size_at k) (length rest) (asked_by k rest m)
   unfolding asked_by declare_asked sample_asked frame_asked ticks_asked size_of
-  whole_by Unknown = inr (l, inl refl)
-  whole_by Declaration =
+  whole_by None = inr (l, inl refl)
+  whole_by (Some Declaration) =
       whole_if (mark_size Declaration) (length rest) _
       (by_test (Sized (mark_size Declaration)) (m.running || not (eqb (byte rest 2) m.declared)) _ _ (inl refl)
       (by_test (Sized (mark_size Declaration)) (ltb (byte rest 2) 16) _ _
       (by_sensor (Sized (mark_size Declaration)) (declared_in rest) (λ sensor. inr refl) (inl refl)) (inl refl)))
-  whole_by Measurement =
+  whole_by (Some Measurement) =
       whole_if (mark_size Measurement) (length rest) _
       (by_test (Sized (mark_size Measurement)) (known m (byte rest 2)) _ _
       (by_test (Sized (mark_size Measurement)) (allowed m (byte rest 2) (sample_in rest)) _ _
       (by_test (Sized (mark_size Measurement)) (goes_back (instance_at m (byte rest 2)) (sample_in rest)) _ _ (inl refl) (inr refl))
       (inl refl))
       (inl refl))
-  whole_by Bus = whole_if (mark_size Bus) (length rest) _ (inr refl)
-  whole_by Time =
+  whole_by (Some Bus) = whole_if (mark_size Bus) (length rest) _ (inr refl)
+  whole_by (Some Time) =
       whole_if (mark_size Time) (length rest) _
       (by_test (Sized (mark_size Time)) (eqb (word rest 2) 0) _ _ (inl refl)
       (by_test (Sized (mark_size Time)) (ltb (4294967295 - m.tick) (word rest 2)) _ _ (inl refl)
@@ -151,7 +151,7 @@ unfolding asked
 marked rest m l = rw (le-ltb (length rest) 2 l)
 
 -- A RECORD WHOLE: what a record takes is there
-within : (size long : ℕ) (a : Asked) → Whole size long a → size_of a ≤ long
+within : (size long : ℕ) (a : Result Asked Refusal) → Whole size long a → size_of a ≤ long
 unfolding size_of
 within size long a (inl e) = rw e (omega arith)
 within size long a (inr (w, inl z)) = omega arith
@@ -165,8 +165,9 @@ asked_size rest m = go (ltb (length rest) 2) refl
     go true e = rw e (omega arith)
     go false e = let l = ltb-false (length rest) 2 e in rw (marked rest m l) (within _ _ _ (whole_by rest m l (mark_of (word rest 0))))
 
-two_least : (k : Mark) → 2 ≤ size_at k
-two_least k = omega arith
+two_least : (k : Option Mark) → 2 ≤ size_at k
+two_least None = omega arith
+two_least (Some k) = omega arith
 
 same_by : (rest : List ℕ) (m : Model) → 2 ≤ length rest → (q : List ℕ) → Agree (size_at (mark_of (word rest 0))) rest q → asked q m ≡ asked rest m
 same_by rest m l q a =
@@ -183,7 +184,7 @@ record Complete (rest : List ℕ) (m : Model) : Type 0 where
   whole : size_at (mark_of (word rest 0)) ≤ length rest
   sized : Sized (size_at (mark_of (word rest 0))) (asked rest m)
 
-complete : (rest : List ℕ) (m : Model) → (asked rest m ≡ Refused Cut → ⊥) → Complete rest m
+complete : (rest : List ℕ) (m : Model) → (asked rest m ≡ Err Cut → ⊥) → Complete rest m
 unfolding asked
 complete rest m uncut = go (ltb (length rest) 2) refl
   where
@@ -208,44 +209,44 @@ alone rest m h q a = by c.sized
     by (inr z) = same_by rest m c.present q (subst (λ n. Agree n rest q) z a)
 
 -- A RECORD REFUSED, and not for being cut, is refused whatever follows it
-pub refused_still : (rest : List ℕ) (m : Model) (why : Refusal) → (why ≡ Cut → ⊥) → asked rest m ≡ Refused why
-    → (ys : List ℕ) → asked (rest ++ ys) m ≡ Refused why
+pub refused_still : (rest : List ℕ) (m : Model) (why : Refusal) → (why ≡ Cut → ⊥) → asked rest m ≡ Err why
+    → (ys : List ℕ) → asked (rest ++ ys) m ≡ Err why
 refused_still rest m why uncut e ys =
     let c = complete rest m (λ z. let same : why ≡ Cut = cc in uncut same) in
     same_by rest m c.present (rest ++ ys) (extended (size_at (mark_of (word rest 0))) rest ys c.whole) ∙ e
 
 -- ---- BY KINDS: what holds of each refusal but 9, and of each kind of record that is whole, holds of what is asked for
-module _ (P : Asked → Type 0) (rest : List ℕ) (m : Model)
-    (refuse : (why : Refusal) → number_of why ≢ 9 → P (Refused why))
-    (declares : (sensor : Sensor) → P (Declare sensor))
-    (holds : P (Hold (byte rest 2) (sample_in rest)))
-    (frames : P (Frame (byte rest 2) (byte rest 3) (byte rest 4)))
-    (time : word rest 2 ≤ 4294967295 - m.tick → m.tick + word rest 2 ≤ m.last → P (Ticks (word rest 2)))
+module _ (P : Result Asked Refusal → Type 0) (rest : List ℕ) (m : Model)
+    (refuse : (why : Refusal) → number_of why ≢ 9 → P (Err why))
+    (declares : (sensor : Sensor) → P (Ok (Declare sensor)))
+    (holds : P (Ok (Hold (byte rest 2) (sample_in rest))))
+    (frames : P (Ok (Frame (byte rest 2) (byte rest 3) (byte rest 4))))
+    (time : word rest 2 ≤ 4294967295 - m.tick → m.tick + word rest 2 ≤ m.last → P (Ok (Ticks (word rest 2))))
   where
     timely : (b : Bool) → ltb (4294967295 - m.tick) (word rest 2) ≡ b → (c : Bool) → ltb m.last (m.tick + word rest 2) ≡ c
-        → P (cond b (Refused TimeOver) (cond c (Refused BeyondTable) (Ticks (word rest 2))))
+        → P (cond b (Err TimeOver) (cond c (Err BeyondTable) (Ok (Ticks (word rest 2)))))
     unfolding number_of
     timely true e c f = refuse TimeOver (omega arith)
     timely false e true f = refuse BeyondTable (omega arith)
     timely false e false f = time (ltb-false (4294967295 - m.tick) (word rest 2) e) (ltb-false m.last (m.tick + word rest 2) f)
 
-    kind_by : (k : Mark) → P (asked_by k rest m)
+    kind_by : (k : Option Mark) → P (asked_by k rest m)
     unfolding asked_by declare_asked sample_asked frame_asked ticks_asked number_of
-    kind_by Unknown = refuse UnknownMark (omega arith)
-    kind_by Declaration =
+    kind_by None = refuse UnknownMark (omega arith)
+    kind_by (Some Declaration) =
         by_test P (ltb (length rest) (mark_size Declaration)) _ _ (refuse Cut (omega arith))
         (by_test P (m.running || not (eqb (byte rest 2) m.declared)) _ _ (refuse LateOrSkipped (omega arith))
         (by_test P (ltb (byte rest 2) 16) _ _
         (by_sensor P (declared_in rest) declares (refuse NoSuchSensor (omega arith))) (refuse NoSuchSensor (omega arith))))
-    kind_by Measurement =
+    kind_by (Some Measurement) =
         by_test P (ltb (length rest) (mark_size Measurement)) _ _ (refuse Cut (omega arith))
         (by_test P (known m (byte rest 2)) _ _
         (by_test P (allowed m (byte rest 2) (sample_in rest)) _ _
         (by_test P (goes_back (instance_at m (byte rest 2)) (sample_in rest)) _ _ (refuse NotReadyAgain (omega arith)) holds)
         (refuse BadSample (omega arith)))
         (refuse Undeclared (omega arith)))
-    kind_by Bus = by_test P (ltb (length rest) (mark_size Bus)) _ _ (refuse Cut (omega arith)) frames
-    kind_by Time =
+    kind_by (Some Bus) = by_test P (ltb (length rest) (mark_size Bus)) _ _ (refuse Cut (omega arith)) frames
+    kind_by (Some Time) =
         by_test P (ltb (length rest) (mark_size Time)) _ _ (refuse Cut (omega arith))
         (by_test P (eqb (word rest 2) 0) _ _ (refuse NoTicks (omega arith)) (timely (ltb (4294967295 - m.tick) (word rest 2)) refl (ltb m.last (m.tick + word rest 2)) refl))
 
@@ -254,12 +255,12 @@ module _ (P : Asked → Type 0) (rest : List ℕ) (m : Model)
     by_kinds = by_test P (ltb (length rest) 2) _ _ (refuse Cut (omega arith)) (kind_by (mark_of (word rest 0)))
 
 -- ---- the ticks that a record asks for are within the time that is left, and two bytes hold them
-abbrev pub ticks_of : Asked → ℕ
-ticks_of (Refused why) = 0
-ticks_of (Declare sensor) = 0
-ticks_of (Hold i sample) = 0
-ticks_of (Frame first second third) = 0
-ticks_of (Ticks n) = n
+abbrev pub ticks_of : Result Asked Refusal → ℕ
+ticks_of (Err why) = 0
+ticks_of (Ok (Declare sensor)) = 0
+ticks_of (Ok (Hold i sample)) = 0
+ticks_of (Ok (Frame first second third)) = 0
+ticks_of (Ok (Ticks n)) = n
 
 -- none but of a TK, whose two bytes count them
 ticks_counted : (P : ℕ → Type 0) → P 0 → (rest : List ℕ) (m : Model)
@@ -280,12 +281,12 @@ two_bytes rest m a = ticks_counted (λ n. n ≤ 65535) (omega arith) rest m (λ 
 pub count_of : (rest : List ℕ) (m : Model) → 0 < ticks_of (asked rest m) → ticks_of (asked rest m) ≡ word rest 2
 count_of rest m = ticks_counted (λ n. 0 < n → n ≡ word rest 2) (λ h. absurd (omega arith)) rest m (λ h k some. refl)
 
-pub as_ticks : (a : Asked) → 0 < ticks_of a → a ≡ Ticks (ticks_of a)
-as_ticks (Refused why) h = absurd (omega arith)
-as_ticks (Declare sensor) h = absurd (omega arith)
-as_ticks (Hold i sample) h = absurd (omega arith)
-as_ticks (Frame first second third) h = absurd (omega arith)
-as_ticks (Ticks n) h = refl
+pub as_ticks : (a : Result Asked Refusal) → 0 < ticks_of a → a ≡ Ok (Ticks (ticks_of a))
+as_ticks (Err why) h = absurd (omega arith)
+as_ticks (Ok (Declare sensor)) h = absurd (omega arith)
+as_ticks (Ok (Hold i sample)) h = absurd (omega arith)
+as_ticks (Ok (Frame first second third)) h = absurd (omega arith)
+as_ticks (Ok (Ticks n)) h = refl
 
 -- ---- the numbers: that of a refusal is one of the list, and each of the list is a refusal's
 pub refused_number : (why : Refusal) → OneOf refusal_numbers (number_of why)

@@ -3,66 +3,57 @@ ghost use Rattle.judging.specs.Asked.{Sound, asked, declare_asked, frame_asked, 
 ghost use Rattle.judging.specs.Refusals.{number_of};
 ghost use Rattle.std.specs.Prelude.{◌≡◌};
 
-use crate::declaring::{Declares, declared_by};
+use crate::declaring::declared_by;
 use device::Model;
 use record::Mark;
 use sensor::{Sample, Sensor};
 
-// Why a record is not taken, in the order of the numbers.
+// Why a record is not taken, with the document's numbers.
 #[derive(Clone, Copy)]
 pub enum Refusal {
-    UnknownMark,
-    Cut,
-    LateOrSkipped,
-    NoSuchSensor,
-    Undeclared,
-    BadSample,
-    NoTicks,
-    TimeOver,
-    Full,
-    BeyondTable,
-    NotReadyAgain,
+    UnknownMark = 1,
+    Cut = 2,
+    LateOrSkipped = 3,
+    NoSuchSensor = 4,
+    Undeclared = 5,
+    BadSample = 6,
+    NoTicks = 7,
+    TimeOver = 8,
+    Full = 9,
+    BeyondTable = 10,
+    NotReadyAgain = 13,
 }
 
 // What a record asks for.
 #[derive(Clone, Copy)]
 pub enum Asked {
-    Refused(Refusal),
     Declare(Sensor),
     Hold { instance: u8, sample: Sample },
     Frame(u8, u8, u8),
     Ticks(u16),
 }
 
-// The document's number of a refusal.
-pub fn number_of(refusal: Refusal) -> u8
-    ensures { result ≡ number_of refusal }
-{
-    match refusal {
-        Refusal::UnknownMark => 1,
-        Refusal::Cut => 2,
-        Refusal::LateOrSkipped => 3,
-        Refusal::NoSuchSensor => 4,
-        Refusal::Undeclared => 5,
-        Refusal::BadSample => 6,
-        Refusal::NoTicks => 7,
-        Refusal::TimeOver => 8,
-        Refusal::Full => 9,
-        Refusal::BeyondTable => 10,
-        Refusal::NotReadyAgain => 13,
+impl Refusal {
+    #[tactic(auto, unfolding(crate::specs::Refusals::number_of))]
+    pub fn number(self) -> u8
+        ensures { result ≡ number_of self }
+    {
+        self as u8
     }
 }
 
-// The record at the front: mark present, mark known, record whole, then its own numbers in rising order.
-pub fn record_asked(rest: &[u8], model: Model) -> Asked
-    ensures { (result ≡ asked rest.now model) × Sound rest.now model result }
+// The record at the front: mark present, mark known, record whole, then its own numbers in rising order. What is left
+// and the device come as two: the one goes on with each record, and the other lies where it is. That the answer is sound
+// says something of all three, so that none can carry it.
+#[tactic(auto, unfolding(crate::specs::Asked::asked, crate::specs::Asked::asked_by))]
+pub fn record_asked(rest: &[u8], model: &Model) -> Result<Asked, Refusal>
+    ensures { (result ≡ asked rest.now model.now) × Sound rest.now model.now result }
 {
-    if rest.len() < 2 {
-        return Asked::Refused(Refusal::Cut);
-    }
-    let mark = record::mark_of(record::word(rest[0], rest[1]));
+    let [first, second, ..] = *rest else {
+        return Err(Refusal::Cut);
+    };
+    let mark = record::mark_of(record::word(first, second)).ok_or(Refusal::UnknownMark)?;
     match mark {
-        Mark::Unknown => Asked::Refused(Refusal::UnknownMark),
         Mark::Declaration => declare_asked(rest, model),
         Mark::Measurement => sample_asked(rest, model),
         Mark::Bus => frame_asked(rest, model),
@@ -71,80 +62,73 @@ pub fn record_asked(rest: &[u8], model: Model) -> Asked
 }
 
 // A declaration, of which the mark is there.
-fn declare_asked(rest: &[u8], model: Model) -> Asked
-    ensures { (result ≡ declare_asked rest.now model) × Sound rest.now model result }
+#[tactic(auto, unfolding(crate::specs::Asked::declare_asked))]
+fn declare_asked(rest: &[u8], model: &Model) -> Result<Asked, Refusal>
+    ensures { (result ≡ declare_asked rest.now model.now) × Sound rest.now model.now result }
 {
-    if rest.len() < Mark::IN_SIZE {
-        return Asked::Refused(Refusal::Cut);
-    }
-    let instance = rest[2];
+    let [first, second, instance, sensor_type, resolution, ..] = *rest else {
+        return Err(Refusal::Cut);
+    };
     if model.running | (instance != model.declared) {
-        return Asked::Refused(Refusal::LateOrSkipped);
+        return Err(Refusal::LateOrSkipped);
     }
     if 16 <= instance {
-        return Asked::Refused(Refusal::NoSuchSensor);
+        return Err(Refusal::NoSuchSensor);
     }
-    let declares = declared_by(record::word(rest[0], rest[1]), rest[3], rest[4]);
-    match declares {
-        Declares::Nothing => Asked::Refused(Refusal::NoSuchSensor),
-        Declares::One(sensor) => Asked::Declare(sensor),
-    }
+    let letters = record::word(first, second);
+    let sensor = declared_by(letters, sensor_type, resolution).ok_or(Refusal::NoSuchSensor)?;
+    Ok(Asked::Declare(sensor))
 }
 
 // SA, of which the mark is there.
-fn sample_asked(rest: &[u8], model: Model) -> Asked
-    ensures { (result ≡ sample_asked rest.now model) × Sound rest.now model result }
+#[tactic(auto, using(device::proofs::Laws::instance_some, device::proofs::Laws::instance_none, device::proofs::Laws::known_below), unfolding(crate::specs::Asked::sample_asked, device::specs::Device::allowed))]
+fn sample_asked(rest: &[u8], model: &Model) -> Result<Asked, Refusal>
+    ensures { (result ≡ sample_asked rest.now model.now) × Sound rest.now model.now result }
 {
-    if rest.len() < Mark::SA_SIZE {
-        return Asked::Refused(Refusal::Cut);
-    }
-    let instance = rest[2];
-    let status = rest[3];
-    let value = record::triple(rest[4], rest[5], rest[6]);
+    let [_, _, instance, status, high, middle, low, ..] = *rest else {
+        return Err(Refusal::Cut);
+    };
+    let value = record::triple(high, middle, low);
     let sample = Sample { status, value };
-    if !device::known(model, instance) {
-        return Asked::Refused(Refusal::Undeclared);
-    }
-    // Where it lies: a model that is handed over is copied whole.
-    let i = instance as usize;
-    let x = model.instances[i];
-    let kind = x.kind;
-    if !kind.allows(sample) {
-        return Asked::Refused(Refusal::BadSample);
+    let x = model.instance(instance).ok_or(Refusal::Undeclared)?;
+    if !x.kind.allows(sample) {
+        return Err(Refusal::BadSample);
     }
     if x.goes_back(sample) {
-        return Asked::Refused(Refusal::NotReadyAgain);
+        return Err(Refusal::NotReadyAgain);
     }
-    Asked::Hold { instance, sample }
+    Ok(Asked::Hold { instance, sample })
 }
 
 // FR, of which the mark is there.
-fn frame_asked(rest: &[u8], model: Model) -> Asked
-    ensures { (result ≡ frame_asked rest.now) × Sound rest.now model result }
+#[tactic(auto, unfolding(crate::specs::Asked::frame_asked))]
+fn frame_asked(rest: &[u8], model: &Model) -> Result<Asked, Refusal>
+    ensures { (result ≡ frame_asked rest.now) × Sound rest.now model.now result }
 {
-    if rest.len() < Mark::FR_SIZE {
-        return Asked::Refused(Refusal::Cut);
-    }
-    Asked::Frame(rest[2], rest[3], rest[4])
+    let [_, _, first, second, third, ..] = *rest else {
+        return Err(Refusal::Cut);
+    };
+    Ok(Asked::Frame(first, second, third))
 }
 
 // TK, of which the mark is there.
 #[tactic(auto, unfolding(crate::specs::Asked::ticks_asked))]
-fn ticks_asked(rest: &[u8], model: Model) -> Asked
-    ensures { (result ≡ ticks_asked rest.now model) × Sound rest.now model result }
+fn ticks_asked(rest: &[u8], model: &Model) -> Result<Asked, Refusal>
+    ensures { (result ≡ ticks_asked rest.now model.now) × Sound rest.now model.now result }
 {
-    if rest.len() < Mark::TK_SIZE {
-        return Asked::Refused(Refusal::Cut);
-    }
-    let n = record::word(rest[2], rest[3]);
+    let [_, _, high, low, ..] = *rest else {
+        return Err(Refusal::Cut);
+    };
+    let n = record::word(high, low);
     if n == 0 {
-        return Asked::Refused(Refusal::NoTicks);
+        return Err(Refusal::NoTicks);
     }
-    if 4294967295 - model.tick < n as u32 {
-        return Asked::Refused(Refusal::TimeOver);
+    let last = model
+        .tick
+        .checked_add(u32::from(n))
+        .ok_or(Refusal::TimeOver)?;
+    if model.last < last {
+        return Err(Refusal::BeyondTable);
     }
-    if model.last < model.tick + n as u32 {
-        return Asked::Refused(Refusal::BeyondTable);
-    }
-    Asked::Ticks(n)
+    Ok(Asked::Ticks(n))
 }

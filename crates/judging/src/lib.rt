@@ -4,4 +4,4 @@
 mod asked;
 mod declaring;
 
-pub use asked::{Asked, Refusal, number_of, record_asked};
+pub use asked::{Asked, Refusal, record_asked};

@@ -1,5 +1,4 @@
 mod Coming
-mod Within
 mod Pieces
 mod Turns
 mod Tabulated

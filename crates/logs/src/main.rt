@@ -27,19 +27,21 @@ fn main(rt: HostRuntime) {
         out: rt.stdout(),
         err: rt.stderr(),
     };
-    let count = arguments::count(&rt);
-    if count < 2 {
-        showing::run(&mut input, to, &mut device);
-    } else if count == 2 {
-        let (mut of_device, mut of_model) = sides(&rt, rt.stdin());
-        let laid = comparing::run(&mut of_device, &mut of_model, &mut device, &mut model);
-        saying::say(to, laid);
-    } else if count == 3 {
-        let hour = arguments::argument(&rt, 2);
-        let (mut judged, mut copied) = pair(&rt, parting::JUDGED, parting::COPIED);
-        parting::part(hour, &mut judged, &mut copied, to, &mut device);
-    } else {
-        let asked = tabling::asked_by(&rt, count);
-        tabling::print(&rt, asked, &mut input, to, &mut device);
+    match arguments::count(&rt) {
+        0 | 1 => showing::run(&mut input, to, &mut device),
+        2 => {
+            let (mut of_device, mut of_model) = sides(&rt, rt.stdin());
+            let laid = comparing::run(&mut of_device, &mut of_model, &mut device, &mut model);
+            saying::say(to, laid);
+        }
+        3 => {
+            let hour = arguments::argument(&rt, 2);
+            let (mut judged, mut copied) = pair(&rt);
+            parting::part(hour, &mut judged, &mut copied, to, &mut device);
+        }
+        count => {
+            let asked = tabling::asked_by(&rt, count);
+            tabling::print(&rt, asked, &mut input, to, &mut device);
+        }
     }
 }

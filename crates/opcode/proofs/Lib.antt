@@ -1,3 +1,2 @@
-mod Cases
 pub mod Opcodes
 pub mod Unique

@@ -12,23 +12,20 @@ use std::env::{Env, FillError};
 fn main(rt: HostRuntime) {
     let mut input = [0u8; 65536];
     let mut output = [0u8; 65536];
-    let from = rt.stdin();
-    let to = rt.stdout();
-    if has_word(&rt) {
-        let r = reading::run(from, to, tabled::in_use(), &mut input, &mut output);
-        facts::write(r);
-        saying::say(rt.stderr(), r);
+    let in_use = has_word(&rt);
+    let start = if in_use {
+        tabled::in_use()
     } else {
-        let r = reading::run(from, to, device::fresh(), &mut input, &mut output);
-        saying::say(rt.stderr(), r);
+        device::fresh()
+    };
+    let r = reading::run(rt.stdin(), rt.stdout(), start, &mut input, &mut output);
+    if in_use {
+        facts::write(&r);
     }
+    saying::say(rt.stderr(), &r);
 }
 
-// A word behind the program's name, whatever it is.
+// A word behind the program's name, whatever it is. `logs` asks so too: below the two programs no crate knows of words.
 fn has_word(env: &impl Env) -> bool {
-    match env.arg(1, &mut []) {
-        Ok(_) => true,
-        Err(FillError::TooLong) => true,
-        Err(FillError::NotPresent) => false,
-    }
+    !matches!(env.arg(1, &mut []), Err(FillError::NotPresent))
 }

@@ -38,12 +38,14 @@ impl Channel {
 pub const PARAMETERS: u8 = 15;
 
 // The answer for each DTR0; 0 where there is no such parameter.
+#[tactic(auto, unfolding(crate::specs::Annex::parameter))]
 pub fn parameter(dtr0: u8) -> u8
     ensures { result ≡ parameter dtr0 }
 {
     let red = Channel::RED;
     let green = Channel::GREEN;
     let blue = Channel::BLUE;
+    // Stays a match: a list of the fifteen, with its test, is no shorter, and its proof did not close.
     match dtr0 {
         0 => wavelength(red.upper),
         1 => wavelength(red.peak),
@@ -54,25 +56,20 @@ pub fn parameter(dtr0: u8) -> u8
         6 => wavelength(blue.upper),
         7 => wavelength(blue.peak),
         8 => wavelength(blue.lower),
-        9 => (red.irradiance / 256) as u8,
-        10 => (red.irradiance % 256) as u8,
-        11 => (green.irradiance / 256) as u8,
-        12 => (green.irradiance % 256) as u8,
-        13 => (blue.irradiance / 256) as u8,
-        14 => (blue.irradiance % 256) as u8,
-        15..=255 => 0,
+        9 => red.irradiance.to_be_bytes()[0],
+        10 => red.irradiance.to_be_bytes()[1],
+        11 => green.irradiance.to_be_bytes()[0],
+        12 => green.irradiance.to_be_bytes()[1],
+        13 => blue.irradiance.to_be_bytes()[0],
+        14 => blue.irradiance.to_be_bytes()[1],
+        _ => 0,
     }
 }
 
 // Steps of 2 nm above 300, from 0 to 255.
+#[tactic(auto, unfolding(crate::specs::Annex::wavelength))]
 fn wavelength(nm: u16) -> u8
     ensures { result ≡ wavelength nm }
 {
-    if nm <= 300 {
-        return 0;
-    }
-    if 810 <= nm {
-        return 255;
-    }
-    ((nm - 300) / 2) as u8
+    (nm.saturating_sub(300) / 2).min(255) as u8
 }

@@ -1,5 +1,6 @@
-// What the number of a colour says (M-104; IEC 62386-305): its three levels, how far two colours are apart, what an event tells of one. And the sensor
-// that is modelled, which is the example of the standard's annex. Every function takes any numbers.
+// What the number of a colour says (M-104; IEC 62386-305): its three levels, how far two colours are apart, what an
+// event tells of one. And the sensor that is modelled, which is the example of the standard's annex. Every function
+// takes any numbers.
 #![tactic(auto)]
 
 mod annex;
@@ -9,62 +10,40 @@ ghost use Rattle.rgb.specs.Colour.{absolute_change, apart, b_value, g_value, inf
 
 pub use annex::{PARAMETERS, parameter};
 
-// Red, the lowest byte.
-fn red(value: u32) -> u8
-    ensures { result ≡ r_value value }
-{
-    (value % 256) as u8
-}
-
-// Green, the byte above it.
-fn green(value: u32) -> u8
-    ensures { result ≡ g_value value }
-{
-    (value / 256 % 256) as u8
-}
-
-// Blue, on top.
-fn blue(value: u32) -> u8
-    ensures { result ≡ b_value value }
-{
-    (value / 65536 % 256) as u8
-}
-
 // Each of the three is a level that a sensor measures: 0 to 254.
 pub fn measurable(value: u32) -> bool
     ensures { result ≡ (level (r_value value) && level (g_value value)) && level (b_value value) }
 {
-    (red(value) < 255) & (green(value) < 255) & (blue(value) < 255)
+    let [red, green, blue, _] = value.to_le_bytes();
+    (red < 255) & (green < 255) & (blue < 255)
 }
 
 // absoluteChange: what the three differ from the last ones, added up.
+#[tactic(auto, unfolding(crate::specs::Colour::absolute_change, crate::specs::Colour::apart))]
 pub fn absolute_change(value: u32, last: u32) -> u32
     ensures { result ≡ absolute_change value last }
 {
-    apart(red(value), red(last)) + apart(green(value), green(last)) + apart(blue(value), blue(last))
+    let [red, green, blue, _] = value.to_le_bytes();
+    let [last_red, last_green, last_blue, _] = last.to_le_bytes();
+    (red.abs_diff(last_red) as u32)
+        + (green.abs_diff(last_green) as u32)
+        + (blue.abs_diff(last_blue) as u32)
 }
 
 // The three added up.
+#[tactic(auto, unfolding(crate::specs::Colour::total))]
 pub fn total(value: u32) -> u32
     ensures { result ≡ total value }
 {
-    (red(value) as u32) + (green(value) as u32) + (blue(value) as u32)
+    let [red, green, blue, _] = value.to_le_bytes();
+    (red as u32) + (green as u32) + (blue as u32)
 }
 
 // What an event says: the top three bits of each, red lowest.
+#[tactic(auto, unfolding(crate::specs::Colour::information))]
 pub fn information(value: u32) -> u16
     ensures { result ≡ information value }
 {
-    ((red(value) / 32) as u16) + ((green(value) / 32) as u16) * 8 + ((blue(value) / 32) as u16) * 64
-}
-
-fn apart(a: u8, b: u8) -> u32
-    ensures is { result ≡ apart a b }
-    ensures small { result < 256 }
-{
-    if a < b {
-        (b - a) as u32
-    } else {
-        (a - b) as u32
-    }
+    let [red, green, blue, _] = value.to_le_bytes();
+    ((red / 32) as u16) + ((green / 32) as u16) * 8 + ((blue / 32) as u16) * 64
 }

@@ -7,20 +7,19 @@ use Rattle.sensor.specs.Kind.{cause, repeat, rules, sent, taken, units}
 use Rattle.sensor.specs.Light.{light_sent, light_taken, with_band, with_shown}
 use Rattle.sensor.specs.Movement.{area, hold_after, hold_time, letting, movement_cause, movement_sent, movement_taken, seen_after, shown, stilled, with_hold_left, with_seen}
 use Rattle.sensor.specs.Occupancy.{change, occupancy_sent, occupancy_taken, triggers, waits}
-use Rattle.sensor.specs.Quiet.{colour_settled, falls_for, light_settled, movement_falls_for, movement_rested, movement_settled, no_band, occupancy_settled, quiet_for, rested, rested_kind, settled, steady}
+use Rattle.sensor.specs.Quiet.{colour_settled, falls_for, light_settled, movement_falls_for, movement_rested, movement_settled, occupancy_settled, quiet_for, rested, rested_kind, settled, steady}
 use Rattle.sensor.specs.Tick.{closed, decision_at, kind_after, sent_after, taken_kind, ticked, valid}
 use Rattle.sensor.specs.declared.colour.Colour.{Colour}
 use Rattle.sensor.specs.declared.instance.Instance.{Instance}
-use Rattle.sensor.specs.declared.instance.Sent.TheVariants.{Nothing}
 use Rattle.sensor.specs.declared.kind.Kind.TheVariants as kinds
 use Rattle.sensor.specs.declared.kind.Kind.{Kind}
-use Rattle.sensor.specs.declared.light.Band.TheVariants.{Between, Nowhere}
 use Rattle.sensor.specs.declared.light.Band.{Band}
 use Rattle.sensor.specs.declared.light.Light.{Light}
 use Rattle.sensor.specs.declared.movement.Movement.{Movement}
 use Rattle.sensor.specs.declared.occupancy.Occupancy.{Occupancy}
 use Rattle.sensor.specs.declared.settings.Sample.{Sample}
 use Rattle.sensor.specs.declared.settings.Settings.{Settings}
+use Rattle.std.specs.Prelude.{None, Option, Some, is_none}
 use Rattle.timers.proofs.Quiet as gates
 use Rattle.timers.specs.Decision.{after, sends}
 use Rattle.timers.specs.declared.Decision.TheVariants.{Reported, Silent, Triggered}
@@ -48,14 +47,13 @@ same_self true = refl
 same_self false = refl
 
 -- ---- a settled sensor that takes the held sample again does no more than let its own timer fall
-no_band_lem : (b : Band) → no_band b ≡ true → b ≡ Nowhere
-unfolding no_band
-no_band_lem Nowhere e = refl
-no_band_lem (Between low high) e = absurd (false≢true e)
+no_band : (b : Option Band) → is_none b ≡ true → b ≡ None
+no_band None e = refl
+no_band (Some band) e = absurd (false≢true e)
 
-band_stays : (valid : Bool) (b : Band) → valid || no_band b ≡ true → cond valid b Nowhere ≡ b
+band_stays : (valid : Bool) (b : Option Band) → valid || is_none b ≡ true → cond valid b None ≡ b
 band_stays true b e = refl
-band_stays false b e = sym (no_band_lem b e)
+band_stays false b e = sym (no_band b e)
 
 light_stays : (l : Light) (held : Sample) → light_settled l held ≡ true → light_taken l held ≡ l
 unfolding light_settled light_taken
@@ -195,7 +193,7 @@ unfolding rested
 rested_none x = rw (kind_rested_none x.kind, gates.rested_none x.timers)
 
 -- while it is quiet, a tick sends nothing and only lets timers fall
-pub quiet_tick : (x : Instance) (n : ℕ) → n < quiet_for x → ticked (rested x n) ≡ record { instance = rested x (suc n); sent = Nothing }
+pub quiet_tick : (x : Instance) (n : ℕ) → n < quiet_for x → ticked (rested x n) ≡ record { instance = rested x (suc n); sent = None }
 unfolding quiet_for steady rested ticked closed kind_after sent_after after
 quiet_tick x n h =
     let p = some _ _ _ h in
@@ -207,8 +205,7 @@ quiet_tick x n h =
     rw (kind, rested_rules x.kind x.settings (suc n), rested_cause x.kind x.settings (suc n), timers, shut, failed)
 
 -- ---- after any tick, and until a sample or a command, an instance is steady: how long it is quiet is then for its timers to say
-band_settles : (valid : Bool) (b : Band) → valid || no_band (cond valid b Nowhere) ≡ true
-unfolding no_band
+band_settles : (valid : Bool) (b : Option Band) → valid || is_none (cond valid b None) ≡ true
 band_settles true b = refl
 band_settles false b = refl
 

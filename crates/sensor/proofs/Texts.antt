@@ -10,7 +10,6 @@ use Rattle.sensor.specs.Light.{compared, compared_by, light_allows, light_cause,
 use Rattle.sensor.specs.Text.{InRange, Shows, Takes, as_in, kind_as_in, light_as_in, whole_bytes}
 use Rattle.sensor.specs.Tick.{closed, decision_at, holding, kind_after, sent_after, taken_kind, ticked}
 use Rattle.sensor.specs.declared.instance.Instance.{Instance}
-use Rattle.sensor.specs.declared.instance.Sent.TheVariants.{Event}
 use Rattle.sensor.specs.declared.kind.Kind.TheVariants as kinds
 use Rattle.sensor.specs.declared.kind.Kind.{Kind}
 use Rattle.sensor.specs.declared.light.Basis.TheVariants.{Measured, Padded}
@@ -20,6 +19,7 @@ use Rattle.sensor.specs.declared.sensors.Sensor.TheVariants as sensors
 use Rattle.sensor.specs.declared.sensors.Sensor.{Sensor}
 use Rattle.sensor.specs.declared.settings.Sample.{Sample}
 use Rattle.sensor.specs.declared.settings.Settings.{Settings}
+use Rattle.std.specs.Prelude.{Some}
 use Rattle.timers.specs.declared.Decision.TheVariants.{Reported, Silent, Triggered}
 use Rattle.timers.specs.declared.Decision.{Decision}
 use Rattle.widen.proofs.Laws.{whole}
@@ -79,7 +79,7 @@ cause_as (kinds.Colour c) s h = refl
 sent_as : (k : Kind) (s : Settings) → Shows k → sent (kind_as_in k) s ≡ kind_as_in (sent k s)
 unfolding sent light_sent
 sent_as (kinds.Light l) s h =
-    ap (λ v. kinds.Light (light_as_in (with_band (moved l.band v (width v s.hysteresis s.minimum)) l))) (compared_as l h)
+    ap (λ v. kinds.Light (light_as_in (with_band (Some (moved l.band v (width v s.hysteresis s.minimum))) l))) (compared_as l h)
 sent_as (kinds.Occupancy o) s h = refl
 sent_as (kinds.Movement m) s h = refl
 sent_as (kinds.Colour c) s h = refl
@@ -100,8 +100,8 @@ after_as Reported k s h = sent_as k s h
 event_as : (d : Decision) (k : Kind) (s : Settings) → sent_after d (kind_as_in k) s ≡ sent_after d k s
 unfolding sent_after
 event_as Silent k s = refl
-event_as Triggered k s = ap (Event s.priority) (information_as k false)
-event_as Reported k s = ap (Event 5) (information_as k true)
+event_as Triggered k s = rw (information_as k false)
+event_as Reported k s = rw (information_as k true)
 
 -- once it has taken a sample of its resolution, it shows one
 taken_shows : (k : Kind) (s : Settings) (held : Sample) → Takes k held → Shows (taken k s held)

@@ -142,6 +142,8 @@ use Rattle.sensor.proofs.occupancy.Occupancy.settled.Kinds as Occupancy-settled-
 use Rattle.sensor.proofs.occupancy.Occupancy.settled.Reads as Occupancy-settled
 use Rattle.sensor.proofs.occupancy.Occupancy.taken.Kinds as Occupancy-taken-kinds
 use Rattle.sensor.proofs.occupancy.Occupancy.taken.Reads as Occupancy-taken
+use Rattle.sensor.proofs.settings.SamplePartialEq.eq.Kinds as Sample-eq-kinds
+use Rattle.sensor.proofs.settings.SamplePartialEq.eq.Reads as Sample-eq
 use mathlib.Core.Path.{sym, ◌∙◌}
 
 pub Instance-fresh_unique : Unique 0 Instance-fresh-kinds.ps Instance-fresh-kinds.r Instance-fresh.Post
@@ -353,3 +355,7 @@ Colour-input_unique κs a x y s t p q = p ∙ sym q
 
 pub Colour-settled_unique : Unique 0 Colour-settled-kinds.ps Colour-settled-kinds.r Colour-settled.Post
 Colour-settled_unique κs a x y s t p q = p ∙ sym q
+
+-- `==`, which is derived
+pub Sample-eq_unique : Unique 2 Sample-eq-kinds.ps Sample-eq-kinds.r Sample-eq.Post
+Sample-eq_unique κs a x y s t p q = p ∙ sym q

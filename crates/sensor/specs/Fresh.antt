@@ -1,6 +1,6 @@
 -- Document 01, "Each type carries its own defaults": an instance as it is declared.
 -- Assumes nothing.
-use Rattle.std.specs.Prelude.{ℕ}
+use Rattle.std.specs.Prelude.{ℕ, None}
 use Rattle.sensor.specs.Colour.{colour_settings, colour_start}
 use Rattle.sensor.specs.Instance.{untouched}
 use Rattle.sensor.specs.Kind.{rules}
@@ -18,7 +18,6 @@ use Rattle.sensor.specs.declared.sensors.Sensor.{Sensor}
 use Rattle.sensor.specs.declared.settings.Sample.{Sample}
 use Rattle.sensor.specs.declared.settings.Settings.{Settings}
 use Rattle.timers.specs.Timers.{started_report}
-use Rattle.timers.specs.declared.Report.TheVariants.{Stopped}
 
 -- dead time not running, report timer started, nothing latched
 unfoldable pub fresh : Kind → Settings → (held : Sample) → Instance
@@ -50,5 +49,5 @@ blank =
     untouched
     (Light (with_shown (record { status = 0; value = 0 }) (light_start Measured 0)))
     no_settings
-    (record { dead = 0; report = Stopped })
+    (record { dead = 0; report = None })
     (record { status = 0; value = 0 })

@@ -1,8 +1,7 @@
 -- Document 01, "Widths", "Each type carries its own defaults" and "One tick", of the light sensor (type 4; IEC 62386-304).
 -- Assumes nothing.
-use Rattle.std.specs.Prelude.{ℕ, ◌%◌, ◌*◌, ◌+◌, ◌-◌, ◌/◌, ◌^◌, max, min, eqb, leb, ltb, Bool, cond, true, ◌&&◌, ◌||◌}
+use Rattle.std.specs.Prelude.{ℕ, ◌%◌, ◌*◌, ◌+◌, ◌-◌, ◌/◌, ◌^◌, max, min, None, Option, Some, eqb, leb, ltb, Bool, cond, true, ◌&&◌, ◌||◌}
 use Rattle.sensor.specs.Settings.{no_settings, with_deadtime, with_enabled, with_filter, with_hysteresis, with_minimum, with_priority, with_report}
-use Rattle.sensor.specs.declared.light.Band.TheVariants.{Between, Nowhere}
 use Rattle.sensor.specs.declared.light.Band.{Band}
 use Rattle.sensor.specs.declared.light.Basis.TheVariants.{Measured, Padded}
 use Rattle.sensor.specs.declared.light.Basis.{Basis}
@@ -29,7 +28,7 @@ abbrev pub unready : Sample
 unready = record { status = 1; value = 0 }
 
 abbrev pub light_start : Basis → (resolution : ℕ) → Light
-light_start basis resolution = record { basis = basis; resolution = resolution; shown = unready; band = Nowhere }
+light_start basis resolution = record { basis = basis; resolution = resolution; shown = unready; band = None }
 
 -- the sensor with one part changed: only these and the one above list every part
 abbrev pub with_basis : Basis → Light → Light
@@ -38,7 +37,7 @@ with_basis basis l = record { basis = basis; resolution = l.resolution; shown = 
 abbrev pub with_shown : Sample → Light → Light
 with_shown sample l = record { basis = l.basis; resolution = l.resolution; shown = sample; band = l.band }
 
-abbrev pub with_band : Band → Light → Light
+abbrev pub with_band : Option Band → Light → Light
 with_band band l = record { basis = l.basis; resolution = l.resolution; shown = l.shown; band = band }
 
 -- ---- samples: 0 to 2^resolution - 2 with status 0; with status 1 or 2 the value must be 0
@@ -59,20 +58,21 @@ unfoldable pub width : (v hysteresis least : ℕ) → ℕ
 width v hysteresis least = max least (v * hysteresis / 100)
 
 -- v is above high, v is below low, or no band exists
-unfoldable pub outside : Band → (v : ℕ) → Bool
-outside Nowhere v = true
-outside (Between low high) v = ltb high v || ltb v low
+unfoldable pub outside : Option Band → (v : ℕ) → Bool
+outside None v = true
+outside (Some band) v = ltb band.high v || ltb v band.low
 
 -- at any event: if there is no band or v is above high, high = v and low = v - width, not below 0; if v is below low, low = v and
 -- high = v + width; else the band stays
-unfoldable pub moved : Band → (v wide : ℕ) → Band
-moved Nowhere v wide = Between (v - wide) v
-moved (Between low high) v wide = cond (ltb high v) (Between (v - wide) v) (cond (ltb v low) (Between v (v + wide)) (Between low high))
+unfoldable pub moved : Option Band → (v wide : ℕ) → Band
+moved None v wide = record { low = v - wide; high = v }
+moved (Some band) v wide =
+    cond (ltb band.high v) (record { low = v - wide; high = v }) (cond (ltb v band.low) (record { low = v; high = v + wide }) band)
 
 -- ---- what a tick asks of the type
 -- the held sample is taken; status 1 or 2 discards the band
 unfoldable pub light_taken : Light → (held : Sample) → Light
-light_taken l held = with_shown held (with_band (cond (eqb held.status 0) l.band Nowhere) l)
+light_taken l held = with_shown held (with_band (cond (eqb held.status 0) l.band None) l)
 
 -- filter bit 0
 unfoldable pub light_repeat : Settings → Bool
@@ -84,7 +84,7 @@ light_cause l s = (light_repeat s && ltb 0 s.hysteresis) && outside l.band (comp
 
 -- as an event leaves it: the width is taken at the event
 unfoldable pub light_sent : Light → Settings → Light
-light_sent l s = with_band (moved l.band (compared l) (width (compared l) s.hysteresis s.minimum)) l
+light_sent l s = with_band (Some (moved l.band (compared l) (width (compared l) s.hysteresis s.minimum))) l
 
 -- ten bits of the measured value
 unfoldable pub light_information : Light → ℕ

@@ -1,6 +1,6 @@
 -- For how many ticks an instance is sure to send nothing, and what it is after them. A type may have a timer of its own (M-100: hold).
 -- Assumes nothing.
-use Rattle.std.specs.Prelude.{ℕ, min, ◌%◌, ◌-◌, eqb, Bool, cond, false, not, true, ◌&&◌, ◌||◌}
+use Rattle.std.specs.Prelude.{ℕ, min, ◌%◌, ◌-◌, eqb, is_none, Bool, cond, false, not, ◌&&◌, ◌||◌}
 use Rattle.sensor.specs.Instance.{with_kind, with_timers}
 use Rattle.sensor.specs.Kind.{cause, rules}
 use Rattle.sensor.specs.Movement.{shown, with_hold_left}
@@ -9,8 +9,6 @@ use Rattle.sensor.specs.declared.colour.Colour.{Colour}
 use Rattle.sensor.specs.declared.instance.Instance.{Instance}
 use Rattle.sensor.specs.declared.kind.Kind.TheVariants as kinds
 use Rattle.sensor.specs.declared.kind.Kind.{Kind}
-use Rattle.sensor.specs.declared.light.Band.TheVariants.{Between, Nowhere}
-use Rattle.sensor.specs.declared.light.Band.{Band}
 use Rattle.sensor.specs.declared.light.Light.{Light}
 use Rattle.sensor.specs.declared.movement.Movement.{Movement}
 use Rattle.sensor.specs.declared.occupancy.Occupancy.{Occupancy}
@@ -19,13 +17,9 @@ use Rattle.sensor.specs.declared.settings.Settings.{Settings}
 use Rattle.timers.specs.Quiet as gates
 
 -- ---- taking the held sample again does no more than let the type's own timer fall
-unfoldable pub no_band : Band → Bool
-no_band Nowhere = true
-no_band (Between low high) = false
-
 unfoldable pub light_settled : Light → (held : Sample) → Bool
 light_settled l held =
-    (eqb l.shown.value held.value && eqb l.shown.status held.status) && (eqb held.status 0 || no_band l.band)
+    (eqb l.shown.value held.value && eqb l.shown.status held.status) && (eqb held.status 0 || is_none l.band)
 
 unfoldable pub occupancy_settled : Occupancy → Settings → (held : Sample) → Bool
 occupancy_settled o s held =

@@ -2,9 +2,8 @@
 -- Assumes nothing.
 use Rattle.sensor.specs.Instance.{with_failed, with_held, with_kind, with_measured, with_timers}
 use Rattle.sensor.specs.Kind.{cause, information, rules, sent, taken}
+use Rattle.sensor.specs.declared.instance.Event.{Event}
 use Rattle.sensor.specs.declared.instance.Instance.{Instance}
-use Rattle.sensor.specs.declared.instance.Sent.TheVariants.{Event, Nothing}
-use Rattle.sensor.specs.declared.instance.Sent.{Sent}
 use Rattle.sensor.specs.declared.instance.Ticked.{Ticked}
 use Rattle.sensor.specs.declared.kind.Kind.{Kind}
 use Rattle.sensor.specs.declared.settings.Sample.{Sample}
@@ -15,7 +14,7 @@ use Rattle.timers.specs.declared.Decision.TheVariants.{Reported, Silent, Trigger
 use Rattle.timers.specs.declared.Decision.{Decision}
 use Rattle.timers.specs.declared.Rules.{Rules}
 use Rattle.timers.specs.declared.Timers.{Timers}
-use Rattle.std.specs.Prelude.{eqb, Bool, false, true, ◌&&◌, ◌||◌}
+use Rattle.std.specs.Prelude.{None, Option, Some, eqb, is_some, Bool, false, true, ◌&&◌, ◌||◌}
 
 -- SA only replaces the held sample; and that a valid one was taken is remembered (M-110)
 unfoldable pub holding : Instance → Sample → Instance
@@ -32,15 +31,14 @@ kind_after Triggered k s = sent k s
 kind_after Reported k s = sent k s
 
 -- priority is 5 if the due report is the only cause, else the instance's priority
-unfoldable pub sent_after : Decision → Kind → Settings → Sent
-sent_after Silent k s = Nothing
-sent_after Triggered k s = Event s.priority (information k false)
-sent_after Reported k s = Event 5 (information k true)
+unfoldable pub sent_after : Decision → Kind → Settings → Option Event
+sent_after Silent k s = None
+sent_after Triggered k s = Some (record { priority = s.priority; information = information k false })
+sent_after Reported k s = Some (record { priority = 5; information = information k true })
 
 -- the tick sent an event
-abbrev pub is_event : Sent → Bool
-is_event Nothing = false
-is_event (Event priority information) = true
+abbrev pub is_event : Option Event → Bool
+is_event sent = is_some sent
 
 unfoldable pub closed : Instance → Kind → Timers → Decision → Ticked
 closed x k t decision =

@@ -6,7 +6,7 @@ ghost use Rattle.std.specs.Prelude.{◌≡◌};
 
 use crate::instance::Instance;
 use crate::kind::Kind;
-use crate::light::{Light, width};
+use crate::light::{Light, width, without_value};
 use crate::settings::{Sample, Settings};
 use timers::Units;
 
@@ -62,10 +62,10 @@ impl Colour {
 
     pub const QUERY_HYSTERESIS: u8 = 0x4F;
 
+    #[tactic(auto, unfolding(crate::specs::Fresh::colour_fresh))]
     pub fn fresh() -> Instance
         ensures { result ≡ colour_fresh }
     {
-        let none = Settings::NONE;
         let settings = Settings {
             report: Colour::REPORT,
             deadtime: Colour::DEADTIME,
@@ -74,32 +74,30 @@ impl Colour {
             enabled: true,
             hysteresis: Colour::HYSTERESIS,
             minimum: Colour::HYSTERESIS_MIN,
-            ..none
-        };
-        let unready = Sample {
-            status: 1,
-            value: 0,
+            ..Settings::NONE
         };
         let colour = Colour {
-            shown: unready,
+            shown: Sample::UNREADY,
             last: 0,
             band: 0,
         };
-        Instance::fresh(Kind::Colour(colour), settings, unready)
+        Instance::fresh(Kind::Colour(colour), settings, Sample::UNREADY)
     }
 
     // Which samples the type takes. A level of 255 is MASK's, and no value.
+    #[tactic(auto, unfolding(crate::specs::Colour::colour_allows))]
     pub fn allows(sample: Sample) -> bool
         ensures { result ≡ colour_allows sample }
     {
         if sample.status == 0 {
             rgb::measurable(sample.value)
         } else {
-            (sample.status <= 2) & (sample.value == 0)
+            without_value(sample)
         }
     }
 
     // The sample of this tick is taken. Whatever its status, the last colour and the band stay.
+    #[tactic(auto, unfolding(crate::specs::Colour::colour_taken))]
     pub fn taken(self, held: Sample) -> Colour
         ensures { result ≡ colour_taken self held }
     {
@@ -110,27 +108,24 @@ impl Colour {
     }
 
     // A trigger of its own that the filter lets through: the change is above the band.
+    #[tactic(auto, unfolding(crate::specs::Colour::colour_cause))]
     pub fn cause(self, settings: Settings) -> bool
         ensures { result ≡ colour_cause self settings }
     {
-        let shown = self.shown;
-        let change = rgb::absolute_change(shown.value, self.last) as u64;
+        let change = rgb::absolute_change(self.shown.value, self.last) as u64;
         Light::repeat(settings) & (0 < settings.hysteresis) & (self.band < change)
     }
 
     // As an event leaves it: one that the change is a cause of takes its colour and a new band.
+    #[tactic(auto, unfolding(crate::specs::Colour::colour_sent))]
     pub fn sent(self, settings: Settings) -> Colour
         ensures { result ≡ colour_sent self settings }
     {
         if self.cause(settings) {
-            let shown = self.shown;
+            let total = rgb::total(self.shown.value);
             Colour {
-                last: shown.value,
-                band: width(
-                    rgb::total(shown.value),
-                    settings.hysteresis,
-                    settings.minimum,
-                ),
+                last: self.shown.value,
+                band: width(total, settings.hysteresis, settings.minimum),
                 ..self
             }
         } else {
@@ -139,30 +134,30 @@ impl Colour {
     }
 
     // What an event says.
+    #[tactic(auto, unfolding(crate::specs::Colour::colour_information))]
     pub fn information(self) -> u16
         ensures { result ≡ colour_information self }
     {
-        let shown = self.shown;
-        rgb::information(shown.value)
+        rgb::information(self.shown.value)
     }
 
     // inputValue, as queries show it: MASK for status 1 and 2.
+    #[tactic(auto, unfolding(crate::specs::Colour::colour_input))]
     pub fn input(self) -> u32
         ensures { result ≡ colour_input self }
     {
-        let shown = self.shown;
-        if shown.status == 0 {
-            shown.value
+        if self.shown.status == 0 {
+            self.shown.value
         } else {
             0xFFFFFF
         }
     }
 
     // Taking the held sample again changes nothing.
+    #[tactic(auto, unfolding(crate::specs::Quiet::colour_settled))]
     pub fn settled(self, held: Sample) -> bool
         ensures { result ≡ colour_settled self held }
     {
-        let shown = self.shown;
-        (shown.value == held.value) & (shown.status == held.status)
+        self.shown == held
     }
 }

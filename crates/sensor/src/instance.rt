@@ -1,5 +1,5 @@
 // One instance, and its tick.
-ghost use Rattle.std.specs.Prelude.{min, cond, not, ◌≡◌};
+ghost use Rattle.std.specs.Prelude.{◌≡◌};
 ghost use Rattle.sensor.specs.Fresh.{declared, fresh};
 ghost use Rattle.sensor.specs.Quiet.{quiet_for, rested, steady};
 ghost use Rattle.sensor.specs.Tick.{closed, goes_back, holding, kind_after, sent_after, ticked};
@@ -11,7 +11,7 @@ use crate::movement::Movement;
 use crate::occupancy::Occupancy;
 use crate::sensors::Sensor;
 use crate::settings::{Sample, Settings};
-use timers::{Decision, Report, Timers};
+use timers::{Decision, Timers};
 
 // The bytes of inputValue that 8D has yet to answer: the lowest `left` of `bytes`.
 #[derive(Clone, Copy)]
@@ -20,8 +20,8 @@ pub struct Latch {
     pub bytes: u32,
 }
 
-// measured: a valid sample was taken for it (M-110). failed: status 2 at the last tick. held: the latest sample. In this order it has 80 bytes: the
-// two flags fill what the timers leave of eight.
+// measured: a valid sample was taken for it (M-110). failed: status 2 at the last tick. held: the latest sample. In
+// this order it has 80 bytes: the two flags fill what the timers leave of eight.
 #[derive(Clone, Copy)]
 pub struct Instance {
     pub kind: Kind,
@@ -33,39 +33,39 @@ pub struct Instance {
     pub latch: Latch,
 }
 
+// What an instance sends.
 #[derive(Clone, Copy)]
-pub enum Sent {
-    Nothing,
-    Event { priority: u8, information: u16 },
+pub struct Event {
+    pub priority: u8,
+    pub information: u16,
 }
 
 #[derive(Clone, Copy)]
 pub struct Ticked {
     pub instance: Instance,
-    pub sent: Sent,
+    pub sent: Option<Event>,
 }
 
 impl Instance {
     // As declared: dead time not running, report timer started, nothing measured, nothing latched.
+    #[tactic(auto, unfolding(crate::specs::Fresh::fresh))]
     pub fn fresh(kind: Kind, settings: Settings, held: Sample) -> Instance
         ensures { result ≡ fresh kind settings held }
     {
-        let rules = kind.rules(settings);
-        let report = Report::started(rules);
-        let timers = Timers { dead: 0, report };
-        let latch = Latch { left: 0, bytes: 0 };
+        let report = kind.rules(settings).started_report();
         Instance {
             kind,
             settings,
-            timers,
+            timers: Timers { dead: 0, report },
             held,
             measured: false,
             failed: false,
-            latch,
+            latch: Latch { left: 0, bytes: 0 },
         }
     }
 
     // The instance that a declaration of that sensor leaves.
+    #[tactic(auto, unfolding(crate::specs::Fresh::declared))]
     pub fn declared(sensor: Sensor) -> Instance
         ensures { result ≡ declared sensor }
     {
@@ -79,6 +79,7 @@ impl Instance {
     }
 
     // SA only replaces the held sample; a valid one is remembered to have come.
+    #[tactic(auto, unfolding(crate::specs::Tick::holding))]
     pub fn holding(self, sample: Sample) -> Instance
         ensures { result ≡ holding self sample }
     {
@@ -90,6 +91,7 @@ impl Instance {
     }
 
     // The sample would go back to not ready: status 1, though a valid sample was taken before (M-110).
+    #[tactic(auto, unfolding(crate::specs::Tick::goes_back))]
     pub fn goes_back(self, sample: Sample) -> bool
         ensures { result ≡ goes_back self sample }
     {
@@ -97,118 +99,92 @@ impl Instance {
     }
 
     // The timers fall, the held sample is taken, and at most one event is sent.
+    #[tactic(auto, unfolding(crate::specs::Tick::ticked))]
     pub fn tick(self) -> Ticked
         ensures { result ≡ ticked self }
     {
-        let settings = self.settings;
-        let held = self.held;
-        let last = self.kind;
-        let running = self.timers;
-        let kind = last.taken(settings, held);
-        let rules = kind.rules(settings);
-        let fell = running.fallen();
-        let cause = kind.cause(settings);
-        let decision = Decision::decided(rules, held.status == 0, fell, cause);
-        let timers = fell.after(decision, rules);
-        self.closed(kind, timers, decision)
+        let kind = self.kind.taken(self.settings, self.held);
+        let rules = kind.rules(self.settings);
+        let fell = self.timers.fallen();
+        let cause = kind.cause(self.settings);
+        let decision = Decision::decided(rules, self.held.status == 0, fell, cause);
+        self.closed(kind, fell.after(decision, rules), decision)
     }
 
     // The end of a tick, as it was decided.
+    #[tactic(auto, unfolding(crate::specs::Tick::closed))]
     fn closed(self, kind: Kind, timers: Timers, decision: Decision) -> Ticked
         ensures { result ≡ closed self kind timers decision }
     {
-        let settings = self.settings;
-        let held = self.held;
-        let next = kind_after(decision, kind, settings);
         let instance = Instance {
-            kind: next,
+            kind: kind_after(decision, kind, self.settings),
             timers,
-            failed: held.status == 2,
+            failed: self.held.status == 2,
             ..self
         };
-        let sent = sent_after(decision, kind, settings);
+        let sent = sent_after(decision, kind, self.settings);
         Ticked { instance, sent }
     }
 
     // For how many ticks from now it sends nothing; 0 where the next tick may do more than let timers fall.
+    #[tactic(auto, unfolding(crate::specs::Quiet::quiet_for))]
     pub fn quiet_for(self) -> u32
         ensures { result ≡ quiet_for self }
     {
-        if self.steady() {
-            let kind = self.kind;
-            let settings = self.settings;
-            let held = self.held;
-            let rules = kind.rules(settings);
-            let cause = kind.cause(settings);
-            least(
-                kind.falls_for(held),
-                Decision::silent_for(rules, held.status == 0, self.timers, cause),
-            )
-        } else {
-            0
+        if !self.steady() {
+            return 0;
         }
+        let rules = self.kind.rules(self.settings);
+        let cause = self.kind.cause(self.settings);
+        let silent = Decision::silent_for(rules, self.held.status == 0, self.timers, cause);
+        self.kind.falls_for(self.held).min(silent)
     }
 
     // After n such ticks.
+    #[tactic(auto, unfolding(crate::specs::Quiet::rested))]
     pub fn rested(self, n: u32) -> Instance
         ensures { result ≡ rested self n }
     {
-        let last = self.kind;
-        let running = self.timers;
-        let kind = last.rested(n);
-        let timers = running.rested(n);
         Instance {
-            kind,
-            timers,
+            kind: self.kind.rested(n),
+            timers: self.timers.rested(n),
             ..self
         }
     }
 
     // The held sample has been taken, and `failed` is right.
+    #[tactic(auto, unfolding(crate::specs::Quiet::steady))]
     fn steady(self) -> bool
         ensures { result ≡ steady self }
     {
-        let kind = self.kind;
-        let held = self.held;
-        kind.settled(self.settings, held) & same(self.failed, held.status == 2)
+        self.kind.settled(self.settings, self.held) & (self.failed == (self.held.status == 2))
     }
 }
 
+#[tactic(auto, unfolding(crate::specs::Tick::kind_after))]
 fn kind_after(decision: Decision, kind: Kind, settings: Settings) -> Kind
     ensures { result ≡ kind_after decision kind settings }
 {
     match decision {
         Decision::Silent => kind,
-        Decision::Triggered => kind.sent(settings),
-        Decision::Reported => kind.sent(settings),
+        Decision::Triggered | Decision::Reported => kind.sent(settings),
     }
 }
 
 // Priority 5 where the due report is the only cause.
-fn sent_after(decision: Decision, kind: Kind, settings: Settings) -> Sent
+#[tactic(auto, unfolding(crate::specs::Tick::sent_after))]
+fn sent_after(decision: Decision, kind: Kind, settings: Settings) -> Option<Event>
     ensures { result ≡ sent_after decision kind settings }
 {
     match decision {
-        Decision::Silent => Sent::Nothing,
-        Decision::Triggered => Sent::Event {
+        Decision::Silent => None,
+        Decision::Triggered => Some(Event {
             priority: settings.priority,
             information: kind.information(false),
-        },
-        Decision::Reported => Sent::Event {
+        }),
+        Decision::Reported => Some(Event {
             priority: 5,
             information: kind.information(true),
-        },
+        }),
     }
-}
-
-fn least(a: u32, b: u32) -> u32
-    ensures { result ≡ min a b }
-{
-    if a < b { a } else { b }
-}
-
-fn same(a: bool, b: bool) -> bool
-    ensures { result ≡ cond a b (not b) }
-{
-    if a { b } else { !b }
 }

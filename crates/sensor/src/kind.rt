@@ -1,4 +1,6 @@
-// The types of sensor. All else knows a type by these functions and its opcodes alone: a further type is a variant, a file and an arm in each.
+// The types of sensor. All else knows a type by these functions and its opcodes alone: a further type is a variant, a
+// file, and an arm in each function but those that name movement alone. There is no trait: an instance holds its type
+// by value, so that the matches would stay.
 ghost use Rattle.sensor.specs.Kind.{allowing, allows, cancelled, catching, caught, cause, information, input, kept, repeat, resolution, rules, sensor_type, sent, taken, units};
 ghost use Rattle.sensor.specs.Quiet.{falls_for, rested_kind, settled};
 ghost use Rattle.std.specs.Prelude.{◌≡◌};
@@ -47,18 +49,20 @@ impl Kind {
     pub const QUERY_FILTER: u8 = 0x90;
 
     // Ticks that one step of its multipliers stands for.
+    #[tactic(auto, unfolding(crate::specs::Kind::units))]
     pub fn units(self) -> Units
         ensures { result ≡ units self }
     {
         match self {
             Kind::Light(_) => Light::UNITS,
-            Kind::Occupancy(_) => Occupancy::UNITS,
-            Kind::Movement(_) => Occupancy::UNITS,
+            Kind::Occupancy(_) | Kind::Movement(_) => Occupancy::UNITS,
             Kind::Colour(_) => Colour::UNITS,
         }
     }
 
-    // With the sample of this tick taken.
+    // With the sample of this tick taken. Settings and sample come one by one: they are the instance's, and some types ask
+    // for one of the two alone.
+    #[tactic(auto, unfolding(crate::specs::Kind::taken))]
     pub fn taken(self, settings: Settings, held: Sample) -> Kind
         ensures { result ≡ taken self settings held }
     {
@@ -71,6 +75,7 @@ impl Kind {
     }
 
     // A trigger of its own may be sent.
+    #[tactic(auto, unfolding(crate::specs::Kind::cause))]
     pub fn cause(self, settings: Settings) -> bool
         ensures { result ≡ cause self settings }
     {
@@ -83,18 +88,18 @@ impl Kind {
     }
 
     // The filter lets a due report out.
+    #[tactic(auto, unfolding(crate::specs::Kind::repeat))]
     pub fn repeat(self, settings: Settings) -> bool
         ensures { result ≡ repeat self settings }
     {
         match self {
-            Kind::Light(_) => Light::repeat(settings),
-            Kind::Occupancy(_) => Occupancy::repeat(settings),
-            Kind::Movement(_) => Occupancy::repeat(settings),
-            Kind::Colour(_) => Light::repeat(settings),
+            Kind::Light(_) | Kind::Colour(_) => Light::repeat(settings),
+            Kind::Occupancy(_) | Kind::Movement(_) => Occupancy::repeat(settings),
         }
     }
 
     // As an event leaves it.
+    #[tactic(auto, unfolding(crate::specs::Kind::sent))]
     pub fn sent(self, settings: Settings) -> Kind
         ensures { result ≡ sent self settings }
     {
@@ -107,6 +112,7 @@ impl Kind {
     }
 
     // What an event says. repeats: the due report is its only cause.
+    #[tactic(auto, unfolding(crate::specs::Kind::information))]
     pub fn information(self, repeats: bool) -> u16
         ensures { result ≡ information self repeats }
     {
@@ -119,6 +125,7 @@ impl Kind {
     }
 
     // What the decision goes by.
+    #[tactic(auto, unfolding(crate::specs::Kind::rules))]
     pub fn rules(self, settings: Settings) -> Rules
         ensures { result ≡ rules self settings }
     {
@@ -132,41 +139,42 @@ impl Kind {
     }
 
     // The type, as a number.
+    #[tactic(auto, unfolding(crate::specs::Kind::sensor_type))]
     pub fn sensor_type(self) -> u8
         ensures { result ≡ sensor_type self }
     {
         match self {
             Kind::Light(_) => Light::TYPE,
-            Kind::Occupancy(_) => Occupancy::TYPE,
-            Kind::Movement(_) => Occupancy::TYPE,
+            Kind::Occupancy(_) | Kind::Movement(_) => Occupancy::TYPE,
             Kind::Colour(_) => Colour::TYPE,
         }
     }
 
+    #[tactic(auto, unfolding(crate::specs::Kind::resolution))]
     pub fn resolution(self) -> u8
         ensures { result ≡ resolution self }
     {
         match self {
             Kind::Light(x) => x.resolution,
-            Kind::Occupancy(_) => Occupancy::RESOLUTION,
-            Kind::Movement(_) => Occupancy::RESOLUTION,
+            Kind::Occupancy(_) | Kind::Movement(_) => Occupancy::RESOLUTION,
             Kind::Colour(_) => Colour::RESOLUTION,
         }
     }
 
     // The filter bits that the type keeps.
+    #[tactic(auto, unfolding(crate::specs::Kind::kept))]
     pub fn kept(self) -> u8
         ensures { result ≡ kept self }
     {
         match self {
             Kind::Light(_) => Light::KEPT,
-            Kind::Occupancy(_) => Occupancy::KEPT,
-            Kind::Movement(_) => Occupancy::KEPT,
+            Kind::Occupancy(_) | Kind::Movement(_) => Occupancy::KEPT,
             Kind::Colour(_) => Colour::KEPT,
         }
     }
 
     // inputValue, as queries show it.
+    #[tactic(auto, unfolding(crate::specs::Kind::input))]
     pub fn input(self) -> u32
         ensures { result ≡ input self }
     {
@@ -179,6 +187,7 @@ impl Kind {
     }
 
     // Which samples the type takes.
+    #[tactic(auto, unfolding(crate::specs::Kind::allows))]
     pub fn allows(self, sample: Sample) -> bool
         ensures { result ≡ allows self sample }
     {
@@ -191,54 +200,52 @@ impl Kind {
     }
 
     // Of the triggers that wait, only those go on waiting that `allowed` has.
+    #[tactic(auto, unfolding(crate::specs::Kind::allowing))]
     pub fn allowing(self, allowed: u8) -> Kind
         ensures { result ≡ allowing self allowed }
     {
         match self {
-            Kind::Light(x) => Kind::Light(x),
             Kind::Occupancy(x) => Kind::Occupancy(x.allowing(allowed)),
             Kind::Movement(x) => Kind::Movement(x.allowing(allowed)),
-            Kind::Colour(x) => Kind::Colour(x),
+            Kind::Light(_) | Kind::Colour(_) => self,
         }
     }
 
     // Catch movement; the other types have no such command.
+    #[tactic(auto, unfolding(crate::specs::Kind::caught))]
     pub fn caught(self, settings: Settings) -> Kind
         ensures { result ≡ caught self settings }
     {
         match self {
-            Kind::Light(x) => Kind::Light(x),
-            Kind::Occupancy(x) => Kind::Occupancy(x),
             Kind::Movement(x) => Kind::Movement(x.caught(settings)),
-            Kind::Colour(x) => Kind::Colour(x),
+            _ => self,
         }
     }
 
     // Cancel hold; the other types have no such command.
+    #[tactic(auto, unfolding(crate::specs::Kind::cancelled))]
     pub fn cancelled(self) -> Kind
         ensures { result ≡ cancelled self }
     {
         match self {
-            Kind::Light(x) => Kind::Light(x),
-            Kind::Occupancy(x) => Kind::Occupancy(x),
             Kind::Movement(x) => Kind::Movement(x.cancelled()),
-            Kind::Colour(x) => Kind::Colour(x),
+            _ => self,
         }
     }
 
     // It catches movement.
+    #[tactic(auto, unfolding(crate::specs::Kind::catching))]
     pub fn catching(self) -> bool
         ensures { result ≡ catching self }
     {
         match self {
-            Kind::Light(_) => false,
-            Kind::Occupancy(_) => false,
             Kind::Movement(x) => x.catching,
-            Kind::Colour(_) => false,
+            _ => false,
         }
     }
 
     // Taking the held sample again does no more than let its own timer fall.
+    #[tactic(auto, unfolding(crate::specs::Quiet::settled))]
     pub fn settled(self, settings: Settings, held: Sample) -> bool
         ensures { result ≡ settled self settings held }
     {
@@ -250,27 +257,26 @@ impl Kind {
         }
     }
 
-    // For how many ticks its own timer only falls. A type without one says forever: more ticks than a session can count.
+    // For how many ticks its own timer only falls. A type without one says forever: more ticks than a session can
+    // count.
+    #[tactic(auto, unfolding(crate::specs::Quiet::falls_for))]
     pub fn falls_for(self, held: Sample) -> u32
         ensures { result ≡ falls_for self held }
     {
         match self {
-            Kind::Light(_) => u32::MAX,
-            Kind::Occupancy(_) => u32::MAX,
             Kind::Movement(x) => x.falls_for(held),
-            Kind::Colour(_) => u32::MAX,
+            _ => u32::MAX,
         }
     }
 
     // After n such ticks.
+    #[tactic(auto, unfolding(crate::specs::Quiet::rested_kind))]
     pub fn rested(self, n: u32) -> Kind
         ensures { result ≡ rested_kind self n }
     {
         match self {
-            Kind::Light(x) => Kind::Light(x),
-            Kind::Occupancy(x) => Kind::Occupancy(x),
             Kind::Movement(x) => Kind::Movement(x.rested(n)),
-            Kind::Colour(x) => Kind::Colour(x),
+            _ => self,
         }
     }
 }

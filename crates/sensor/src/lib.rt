@@ -12,7 +12,7 @@ mod sensors;
 mod settings;
 
 pub use colour::Colour;
-pub use instance::{Instance, Latch, Sent, Ticked};
+pub use instance::{Event, Instance, Latch, Ticked};
 pub use kind::Kind;
 pub use light::{Band, Basis, Light};
 pub use movement::Movement;

@@ -1,16 +1,16 @@
 // The light sensor (type 4; IEC 62386-304). Band, width and comparison are on one number, `compared`, and on no other.
-ghost use Rattle.std.specs.Prelude.{◌-◌, ◌<◌, ◌^◌, ltb, ◌≡◌};
+ghost use Rattle.std.specs.Prelude.{◌-◌, ◌&&◌, ◌<◌, ◌^◌, eqb, leb, ltb, ◌≡◌};
 ghost use Rattle.sensor.specs.Fresh.{light_fresh};
 ghost use Rattle.sensor.specs.Light.{compared, light_allows, light_cause, light_information, light_input, light_repeat, light_sent, light_taken, minimum, moved, outside, width};
-ghost use Rattle.sensor.specs.Quiet.{light_settled, no_band};
-ghost use Rattle.sensor.specs.declared.light.Band.TheVariants.{Between};
+ghost use Rattle.sensor.specs.Quiet.{light_settled};
 
 use crate::instance::Instance;
 use crate::kind::Kind;
 use crate::settings::{Sample, Settings};
 use timers::Units;
 
-// What is compared: the measured value, as the amendment of 2024 has it, or inputValue of it, as the text of 2017 had it (M-107).
+// What is compared: the measured value, as the amendment of 2024 has it, or inputValue of it, as the text of 2017 had
+// it (M-107).
 #[derive(Clone, Copy)]
 pub enum Basis {
     Measured,
@@ -19,18 +19,18 @@ pub enum Basis {
 
 // Where the number compared may lie without a trigger.
 #[derive(Clone, Copy)]
-pub enum Band {
-    Nowhere,
-    Between { low: u64, high: u64 },
+pub struct Band {
+    pub low: u64,
+    pub high: u64,
 }
 
-// shown: the sample of the last tick.
+// shown: the sample of the last tick. band: where there is none, every number is a trigger.
 #[derive(Clone, Copy)]
 pub struct Light {
     pub basis: Basis,
     pub resolution: u8,
     pub shown: Sample,
-    pub band: Band,
+    pub band: Option<Band>,
 }
 
 impl Light {
@@ -71,10 +71,10 @@ impl Light {
 
     pub const QUERY_HYSTERESIS: u8 = 0x3F;
 
+    #[tactic(auto, unfolding(crate::specs::Fresh::light_fresh))]
     pub fn fresh(basis: Basis, resolution: u8) -> Instance
         ensures { result ≡ light_fresh basis resolution }
     {
-        let none = Settings::NONE;
         let settings = Settings {
             report: Light::REPORT,
             deadtime: Light::DEADTIME,
@@ -83,47 +83,38 @@ impl Light {
             enabled: true,
             hysteresis: Light::HYSTERESIS,
             minimum: minimum(resolution),
-            ..none
-        };
-        let unready = Sample {
-            status: 1,
-            value: 0,
+            ..Settings::NONE
         };
         let light = Light {
             basis,
             resolution,
-            shown: unready,
-            band: Band::Nowhere,
+            shown: Sample::UNREADY,
+            band: None,
         };
-        Instance::fresh(Kind::Light(light), settings, unready)
+        Instance::fresh(Kind::Light(light), settings, Sample::UNREADY)
     }
 
     // Which samples the type takes. All ones is MASK, and no value.
+    #[tactic(auto, unfolding(crate::specs::Light::light_allows))]
     pub fn allows(self, sample: Sample) -> bool
         ensures { result ≡ light_allows self sample }
     {
         if sample.status == 0 {
             below_mask(sample.value, self.resolution)
         } else {
-            (sample.status <= 2) & (sample.value == 0)
+            without_value(sample)
         }
     }
 
     // The sample of this tick is taken; status 1 or 2 discards the band.
+    #[tactic(auto, unfolding(crate::specs::Light::light_taken))]
     pub fn taken(self, held: Sample) -> Light
         ensures { result ≡ light_taken self held }
     {
-        if held.status == 0 {
-            Light {
-                shown: held,
-                ..self
-            }
-        } else {
-            Light {
-                shown: held,
-                band: Band::Nowhere,
-                ..self
-            }
+        Light {
+            shown: held,
+            band: if held.status == 0 { self.band } else { None },
+            ..self
         }
     }
 
@@ -131,23 +122,24 @@ impl Light {
     pub fn compared(self) -> u32
         ensures { result ≡ compared self }
     {
-        let basis = self.basis;
-        let shown = self.shown;
-        match basis {
-            Basis::Measured => shown.value,
-            Basis::Padded => widen::input_value(shown.value, self.resolution),
+        match self.basis {
+            Basis::Measured => self.shown.value,
+            Basis::Padded => widen::input_value(self.shown.value, self.resolution),
         }
     }
 
     // A trigger of its own that the filter lets through.
+    #[tactic(auto, unfolding(crate::specs::Light::light_cause))]
     pub fn cause(self, settings: Settings) -> bool
         ensures { result ≡ light_cause self settings }
     {
-        let band = self.band;
-        Light::repeat(settings) & (0 < settings.hysteresis) & band.outside(self.compared())
+        Light::repeat(settings)
+            & (0 < settings.hysteresis)
+            & Band::outside(self.band, self.compared())
     }
 
     // Filter bit 0 lets every light event out, the due report too.
+    #[tactic(auto, unfolding(crate::specs::Light::light_repeat))]
     pub fn repeat(settings: Settings) -> bool
         ensures { result ≡ light_repeat settings }
     {
@@ -155,135 +147,108 @@ impl Light {
     }
 
     // As an event leaves it.
+    #[tactic(auto, unfolding(crate::specs::Light::light_sent))]
     pub fn sent(self, settings: Settings) -> Light
         ensures { result ≡ light_sent self settings }
     {
-        let band = self.band;
         Light {
-            band: band.moved(self.compared(), settings),
+            band: Some(Band::moved(self.band, self.compared(), settings)),
             ..self
         }
     }
 
     // What an event says.
+    #[tactic(auto, unfolding(crate::specs::Light::light_information))]
     pub fn information(self) -> u16
         ensures { result ≡ light_information self }
     {
-        let shown = self.shown;
-        widen::information(shown.value, self.resolution)
+        widen::information(self.shown.value, self.resolution)
     }
 
     // inputValue, as queries show it: MASK for status 1 and 2.
+    #[tactic(auto, unfolding(crate::specs::Light::light_input))]
     pub fn input(self) -> u32
         ensures { result ≡ light_input self }
     {
-        let shown = self.shown;
-        if shown.status == 0 {
-            widen::input_value(shown.value, self.resolution)
+        if self.shown.status == 0 {
+            widen::input_value(self.shown.value, self.resolution)
         } else {
             widen::mask(self.resolution)
         }
     }
 
     // Taking the held sample again changes nothing.
+    #[tactic(auto, unfolding(crate::specs::Quiet::light_settled))]
     pub fn settled(self, held: Sample) -> bool
         ensures { result ≡ light_settled self held }
     {
-        let band = self.band;
-        let shown = self.shown;
-        (shown.value == held.value)
-            & (shown.status == held.status)
-            & ((held.status == 0) | band.none())
+        (self.shown == held) & ((held.status == 0) | self.band.is_none())
     }
 }
 
 impl Band {
     // Above high, below low, or no band.
-    pub fn outside(self, v: u32) -> bool
-        ensures { result ≡ outside self v }
+    #[tactic(auto, unfolding(crate::specs::Light::outside))]
+    pub fn outside(band: Option<Band>, v: u32) -> bool
+        ensures { result ≡ outside band v }
     {
         let at = v as u64;
-        match self {
-            Band::Nowhere => true,
-            Band::Between { low, high } => (high < at) | (at < low),
+        match band {
+            None => true,
+            Some(Band { low, high }) => (high < at) | (at < low),
         }
     }
 
-    // As an event at v leaves it; inside the band it stays.
-    pub fn moved(self, v: u32, settings: Settings) -> Band
-        ensures { result ≡ moved self v (width v settings.hysteresis settings.minimum) }
+    // As an event at v leaves it: it ends at v from above or, from below, begins there. Inside the band it stays.
+    #[tactic(auto, unfolding(crate::specs::Light::moved))]
+    pub fn moved(band: Option<Band>, v: u32, settings: Settings) -> Band
+        ensures { result ≡ moved band v (width v settings.hysteresis settings.minimum) }
     {
         let at = v as u64;
         let wide = width(v, settings.hysteresis, settings.minimum);
-        match self {
-            Band::Nowhere => under(at, wide),
-            Band::Between { low, high } => {
-                if high < at {
-                    under(at, wide)
-                } else {
-                    if at < low {
-                        let top = at + wide;
-                        Band::Between { low: at, high: top }
-                    } else {
-                        self
-                    }
-                }
-            }
-        }
-    }
-
-    fn none(self) -> bool
-        ensures { result ≡ no_band self }
-    {
-        match self {
-            Band::Nowhere => true,
-            Band::Between { low: _, high: _ } => false,
+        match band {
+            Some(stays) if stays.low <= at && at <= stays.high => stays,
+            Some(Band { high, .. }) if at <= high => Band {
+                low: at,
+                high: at + wide,
+            },
+            _ => Band {
+                low: at.saturating_sub(wide),
+                high: at,
+            },
         }
     }
 }
 
 // The larger of hysteresisMin and v x hysteresis / 100.
+#[tactic(auto, unfolding(crate::specs::Light::width))]
 pub fn width(v: u32, hysteresis: u8, least: u8) -> u64
     ensures is { result ≡ width v hysteresis least }
     ensures small { result < 2 ^ 40 }
 {
-    let part = (v as u64) * (hysteresis as u64) / 100;
-    let floor = least as u64;
-    if part < floor { floor } else { part }
-}
-
-// A band that ends at v, not below 0.
-fn under(v: u64, wide: u64) -> Band
-    ensures { result ≡ Between (v - wide) v }
-{
-    if wide < v {
-        let low = v - wide;
-        Band::Between { low, high: v }
-    } else {
-        Band::Between { low: 0, high: v }
-    }
+    (v as u64 * hysteresis as u64 / 100).max(least as u64)
 }
 
 // hysteresisMin at start.
+#[tactic(auto, unfolding(crate::specs::Light::minimum))]
 fn minimum(resolution: u8) -> u8
     ensures { result ≡ minimum resolution }
 {
-    if resolution < 15 {
-        let most: u32 = 1 << resolution;
-        (most / 100) as u8
-    } else {
-        255
-    }
+    // From 15 bits on it is 255.
+    ((1u32 << resolution.min(15)) / 100).min(255) as u8
+}
+
+// A sample that is not valid says no value: not ready, or a failure.
+pub fn without_value(sample: Sample) -> bool
+    ensures { result ≡ leb sample.status 2 && eqb sample.value 0 }
+{
+    (sample.status <= 2) & (sample.value == 0)
 }
 
 // At most 2^resolution - 2.
 fn below_mask(value: u32, resolution: u8) -> bool
     ensures { result ≡ ltb value (2 ^ resolution - 1) }
 {
-    if resolution < 33 {
-        let ones = (1u64 << resolution) - 1;
-        (value as u64) < ones
-    } else {
-        true
-    }
+    // From 33 bits on no value is above it.
+    (value as u64) < (1u64 << resolution.min(33)) - 1
 }

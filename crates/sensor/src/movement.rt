@@ -1,16 +1,17 @@
-// The movement-based occupancy sensor (type 3; IEC 62386-303, 9.3.2; M-100). Movement and a hold timer come to the value that a presence-based
-// sensor would measure, and what is made of that value is the presence-based sensor's.
-ghost use Rattle.std.specs.Prelude.{◌-◌, ◌≡◌};
+// The movement-based occupancy sensor (type 3; IEC 62386-303, 9.3.2; M-100). Movement and a hold timer come to the
+// value that a presence-based sensor would measure, and what is made of that value is the presence-based sensor's.
+ghost use Rattle.std.specs.Prelude.{◌≡◌};
 ghost use Rattle.sensor.specs.Fresh.{movement_fresh};
 ghost use Rattle.sensor.specs.Movement.{area, hold_after, hold_time, letting, movement_allowing, movement_allows, movement_cancelled, movement_cause, movement_caught, movement_information, movement_input, movement_sent, movement_taken, shown};
 ghost use Rattle.sensor.specs.Quiet.{movement_falls_for, movement_rested, movement_settled};
 
 use crate::instance::Instance;
 use crate::kind::Kind;
-use crate::occupancy::Occupancy;
+use crate::occupancy::{Occupancy, allows_below};
 use crate::settings::{Sample, Settings};
 
-// seen: as a presence-based sensor sees the area. hold: the ticks left of the hold time, which runs at 0xAA alone; 0 there has expired.
+// seen: as a presence-based sensor sees the area. hold: the ticks left of the hold time, which runs at 0xAA alone; 0
+// there has expired.
 #[derive(Clone, Copy)]
 pub struct Movement {
     pub seen: Occupancy,
@@ -41,127 +42,120 @@ impl Movement {
 
     pub const QUERY_CATCHING: u8 = 0x2F;
 
+    #[tactic(auto, unfolding(crate::specs::Fresh::movement_fresh))]
     pub fn fresh() -> Instance
         ensures { result ≡ movement_fresh }
     {
-        let defaults = Occupancy::defaults();
         let settings = Settings {
             hold: Movement::HOLD,
-            ..defaults
-        };
-        let still = Sample {
-            status: 0,
-            value: 0,
-        };
-        let seen = Occupancy {
-            value: 0,
-            waiting: 0,
+            ..Occupancy::defaults()
         };
         let movement = Movement {
-            seen,
+            seen: Occupancy::START,
             hold: 0,
             catching: false,
         };
-        Instance::fresh(Kind::Movement(movement), settings, still)
+        Instance::fresh(Kind::Movement(movement), settings, Sample::STILL)
     }
 
     // Which samples it takes: bit 0, movement, alone.
+    #[tactic(auto, unfolding(crate::specs::Movement::movement_allows))]
     pub fn allows(sample: Sample) -> bool
         ensures { result ≡ movement_allows sample }
     {
-        if sample.status == 0 {
-            sample.value < 2
-        } else {
-            (sample.status == 2) & (sample.value == 0)
-        }
+        allows_below(sample, 2)
     }
 
     // The hold timer falls, and the sample of this tick is taken.
+    #[tactic(auto, unfolding(crate::specs::Movement::movement_taken))]
     pub fn taken(self, settings: Settings, held: Sample) -> Movement
         ensures { result ≡ movement_taken self settings held }
     {
-        let last = self.seen;
-        let left = less_by(self.hold, 1);
-        let lets = self.letting(settings);
-        let seen = last.taken(lets, self.shown(held, left == 0));
+        let left = self.hold.saturating_sub(1);
+        let shown = self.shown(held, left == 0);
+        let seen = self.seen.taken(self.letting(settings), shown);
         Movement {
             seen,
-            hold: hold_after(settings, last.value, seen.value, left),
+            hold: hold_after(settings, self.seen.value, seen.value, left),
             ..self
         }
     }
 
     // The sample as a presence-based sensor would have it. over: the hold time is.
+    #[tactic(auto, unfolding(crate::specs::Movement::shown))]
     fn shown(self, held: Sample, over: bool) -> Sample
         ensures { result ≡ shown self held over }
     {
-        let seen = self.seen;
-        let value = area(seen.value, held.value % 2 == 1, over);
+        let value = area(self.seen.value, held.value % 2 == 1, over);
         Sample {
-            status: held.status,
             value: value as u32,
+            ..held
         }
     }
 
     // Catching lets Movement through as if its filter bit were set.
+    #[tactic(auto, unfolding(crate::specs::Movement::letting))]
     fn letting(self, settings: Settings) -> Settings
         ensures { result ≡ letting self settings }
     {
-        let filter = if self.catching {
-            settings.filter | Movement::MOVEMENT
+        if self.catching {
+            Settings {
+                filter: settings.filter | Movement::MOVEMENT,
+                ..settings
+            }
         } else {
-            settings.filter
-        };
-        Settings { filter, ..settings }
+            settings
+        }
     }
 
+    #[tactic(auto, unfolding(crate::specs::Movement::movement_cause))]
     pub fn cause(self) -> bool
         ensures { result ≡ movement_cause self }
     {
-        let seen = self.seen;
-        seen.cause()
+        self.seen.cause()
     }
 
     // An event clears all that wait; with Movement among them it ends catching.
+    #[tactic(auto, unfolding(crate::specs::Movement::movement_sent))]
     pub fn sent(self) -> Movement
         ensures { result ≡ movement_sent self }
     {
-        let seen = self.seen;
         Movement {
-            seen: seen.sent(),
-            catching: self.catching & (seen.waiting / Movement::MOVEMENT % 2 == 0),
+            seen: self.seen.sent(),
+            catching: self.catching & (self.seen.waiting / Movement::MOVEMENT % 2 == 0),
             ..self
         }
     }
 
     // What an event says: bit 3 is 1.
+    #[tactic(auto, unfolding(crate::specs::Movement::movement_information))]
     pub fn information(self, repeats: bool) -> u16
         ensures { result ≡ movement_information self repeats }
     {
-        let seen = self.seen;
-        seen.information(repeats) | 8
+        self.seen.information(repeats) | 8
     }
 
     // inputValue, as queries show it.
+    #[tactic(auto, unfolding(crate::specs::Movement::movement_input))]
     pub fn input(self) -> u32
         ensures { result ≡ movement_input self }
     {
-        let seen = self.seen;
-        seen.input()
+        self.seen.input()
     }
 
     // Of the triggers that wait, only those go on waiting that `allowed` has.
+    #[tactic(auto, unfolding(crate::specs::Movement::movement_allowing))]
     pub fn allowing(self, allowed: u8) -> Movement
         ensures { result ≡ movement_allowing self allowed }
     {
-        let seen = self.seen;
         Movement {
-            seen: seen.allowing(allowed),
+            seen: self.seen.allowing(allowed),
             ..self
         }
     }
 
     // Catch movement: for a filter without Movement; where it has that, nothing is left to catch.
+    #[tactic(auto, unfolding(crate::specs::Movement::movement_caught))]
     pub fn caught(self, settings: Settings) -> Movement
         ensures { result ≡ movement_caught self settings }
     {
@@ -172,73 +166,79 @@ impl Movement {
     }
 
     // Cancel hold: a running hold expires at the next tick.
+    #[tactic(auto, unfolding(crate::specs::Movement::movement_cancelled))]
     pub fn cancelled(self) -> Movement
         ensures { result ≡ movement_cancelled self }
     {
-        if self.hold == 0 {
-            return self;
+        Movement {
+            hold: self.hold.min(1),
+            ..self
         }
-        Movement { hold: 1, ..self }
     }
 
     // Taking the held sample again does no more than let the hold timer fall.
+    #[tactic(auto, unfolding(crate::specs::Quiet::movement_settled))]
     pub fn settled(self, settings: Settings, held: Sample) -> bool
         ensures { result ≡ movement_settled self settings held }
     {
-        let seen = self.seen;
-        seen.settled(settings, self.shown(held, false)) & ((seen.value == 2) | (self.hold == 0))
+        self.seen.settled(settings, self.shown(held, false))
+            & ((self.seen.value == 2) | (self.hold == 0))
     }
 
     // For how many ticks the hold timer does not expire; in a failure it has nothing to say.
+    #[tactic(auto, unfolding(crate::specs::Quiet::movement_falls_for))]
     pub fn falls_for(self, held: Sample) -> u32
         ensures { result ≡ movement_falls_for self held }
     {
-        let seen = self.seen;
-        if (held.status == 0) & (seen.value == 2) {
-            less_by(self.hold, 1) as u32
+        if (held.status == 0) & (self.seen.value == 2) {
+            self.hold.saturating_sub(1) as u32
         } else {
             u32::MAX
         }
     }
 
     // After n such ticks.
+    #[tactic(auto, unfolding(crate::specs::Quiet::movement_rested))]
     pub fn rested(self, n: u32) -> Movement
         ensures { result ≡ movement_rested self n }
     {
         Movement {
-            hold: less_by(self.hold, n),
+            hold: (self.hold as u32).saturating_sub(n) as u16,
             ..self
         }
     }
 }
 
-// The value at a tick, by the one before: 3 occupied and moving, 2 occupied and still, 0 vacant once the hold time is over.
+// The value at a tick, by the one before: 3 occupied and moving, 2 occupied and still, 0 vacant once the hold time is
+// over.
+#[tactic(auto, unfolding(crate::specs::Movement::area, crate::specs::Movement::stilled))]
 fn area(old: u8, moves: bool, over: bool) -> u8
     ensures { result ≡ area old moves over }
 {
-    if moves {
-        return 3;
-    }
     match old {
-        0 => 0,
-        // 0x55, as for presence
-        1 => 0,
-        2 => { if over { 0 } else { 2 } }
+        _ if moves => 3,
+        // 1 is 0x55, as for presence
+        0 | 1 => 0,
+        2 if over => 0,
         _ => 2,
     }
 }
 
 // The hold timer starts where the value comes to 0xAA, and runs there alone.
+#[tactic(auto, unfolding(crate::specs::Movement::hold_after))]
 fn hold_after(settings: Settings, old: u8, new: u8, left: u16) -> u16
     ensures { result ≡ hold_after settings old new left }
 {
-    if new == 2 {
-        if old == 2 { left } else { hold_time(settings) }
-    } else {
+    if new != 2 {
         0
+    } else if old == 2 {
+        left
+    } else {
+        hold_time(settings)
     }
 }
 
+#[tactic(auto, unfolding(crate::specs::Movement::hold_time))]
 fn hold_time(settings: Settings) -> u16
     ensures { result ≡ hold_time settings }
 {
@@ -247,12 +247,4 @@ fn hold_time(settings: Settings) -> u16
     } else {
         (settings.hold as u16) * Movement::HOLD_UNIT
     }
-}
-
-// Less by k, but not below 0.
-fn less_by(n: u16, k: u32) -> u16
-    ensures { result ≡ n - k }
-{
-    let wide = n as u32;
-    if k < wide { (wide - k) as u16 } else { 0 }
 }

@@ -2,7 +2,7 @@
 ghost use Rattle.sensor.specs.Fresh.{occupancy_fresh};
 ghost use Rattle.sensor.specs.Occupancy.{change, occupancy_allowing, occupancy_allows, occupancy_cause, occupancy_information, occupancy_input, occupancy_repeat, occupancy_sent, occupancy_settings, occupancy_taken, triggers, waits};
 ghost use Rattle.sensor.specs.Quiet.{occupancy_settled};
-ghost use Rattle.std.specs.Prelude.{◌≡◌};
+ghost use Rattle.std.specs.Prelude.{cond, eqb, ltb, ◌&&◌, ◌≡◌};
 
 use crate::instance::Instance;
 use crate::kind::Kind;
@@ -17,6 +17,12 @@ pub struct Occupancy {
 }
 
 impl Occupancy {
+    // Vacant, and nothing waits.
+    pub const START: Occupancy = Occupancy {
+        value: 0,
+        waiting: 0,
+    };
+
     pub const TYPE: u8 = 3;
 
     pub const RESOLUTION: u8 = 2;
@@ -50,44 +56,34 @@ impl Occupancy {
     pub fn defaults() -> Settings
         ensures { result ≡ occupancy_settings }
     {
-        let none = Settings::NONE;
         Settings {
             report: Occupancy::REPORT,
             deadtime: Occupancy::DEADTIME,
             filter: Occupancy::FILTER,
             priority: Occupancy::PRIORITY,
             enabled: true,
-            ..none
+            ..Settings::NONE
         }
     }
 
+    #[tactic(auto, unfolding(crate::specs::Fresh::occupancy_fresh))]
     pub fn fresh() -> Instance
         ensures { result ≡ occupancy_fresh }
     {
-        let settings = Occupancy::defaults();
-        let still = Sample {
-            status: 0,
-            value: 0,
-        };
-        let occupancy = Occupancy {
-            value: 0,
-            waiting: 0,
-        };
-        Instance::fresh(Kind::Occupancy(occupancy), settings, still)
+        let kind = Kind::Occupancy(Occupancy::START);
+        Instance::fresh(kind, Occupancy::defaults(), Sample::STILL)
     }
 
     // Which samples the type takes.
+    #[tactic(auto, unfolding(crate::specs::Occupancy::occupancy_allows))]
     pub fn allows(sample: Sample) -> bool
         ensures { result ≡ occupancy_allows sample }
     {
-        if sample.status == 0 {
-            sample.value < 4
-        } else {
-            (sample.status == 2) & (sample.value == 0)
-        }
+        allows_below(sample, 4)
     }
 
     // The sample of this tick is taken. A failure clears all that wait.
+    #[tactic(auto, unfolding(crate::specs::Occupancy::occupancy_taken, crate::specs::Occupancy::occupancy_sent))]
     pub fn taken(self, settings: Settings, held: Sample) -> Occupancy
         ensures { result ≡ occupancy_taken self settings held }
     {
@@ -98,13 +94,11 @@ impl Occupancy {
                 waiting: waits(settings, self.waiting, triggers(self.value, value)),
             }
         } else {
-            Occupancy {
-                value: self.value,
-                waiting: 0,
-            }
+            self.sent()
         }
     }
 
+    #[tactic(auto, unfolding(crate::specs::Occupancy::occupancy_cause))]
     pub fn cause(self) -> bool
         ensures { result ≡ occupancy_cause self }
     {
@@ -112,6 +106,7 @@ impl Occupancy {
     }
 
     // Filter bit 2 lets the due report out.
+    #[tactic(auto, unfolding(crate::specs::Occupancy::occupancy_repeat))]
     pub fn repeat(settings: Settings) -> bool
         ensures { result ≡ occupancy_repeat settings }
     {
@@ -119,16 +114,15 @@ impl Occupancy {
     }
 
     // An event clears all that wait.
+    #[tactic(auto, unfolding(crate::specs::Occupancy::occupancy_sent))]
     pub fn sent(self) -> Occupancy
         ensures { result ≡ occupancy_sent self }
     {
-        Occupancy {
-            value: self.value,
-            waiting: 0,
-        }
+        Occupancy { waiting: 0, ..self }
     }
 
     // What an event says. repeats: the due report is its only cause.
+    #[tactic(auto, unfolding(crate::specs::Occupancy::occupancy_information))]
     pub fn information(self, repeats: bool) -> u16
         ensures { result ≡ occupancy_information self repeats }
     {
@@ -137,6 +131,7 @@ impl Occupancy {
     }
 
     // inputValue, as queries show it; the last value is kept in a failure.
+    #[tactic(auto, unfolding(crate::specs::Occupancy::occupancy_input))]
     pub fn input(self) -> u32
         ensures { result ≡ occupancy_input self }
     {
@@ -144,16 +139,18 @@ impl Occupancy {
     }
 
     // Of the triggers that wait, only those go on waiting that `allowed` has.
+    #[tactic(auto, unfolding(crate::specs::Occupancy::occupancy_allowing))]
     pub fn allowing(self, allowed: u8) -> Occupancy
         ensures { result ≡ occupancy_allowing self allowed }
     {
         Occupancy {
-            value: self.value,
             waiting: self.waiting & allowed,
+            ..self
         }
     }
 
     // Taking the held sample again changes nothing.
+    #[tactic(auto, unfolding(crate::specs::Quiet::occupancy_settled))]
     pub fn settled(self, settings: Settings, held: Sample) -> bool
         ensures { result ≡ occupancy_settled self settings held }
     {
@@ -167,24 +164,41 @@ impl Occupancy {
     }
 }
 
+// Samples of an occupancy sensor whose values lie below `end`.
+pub fn allows_below(sample: Sample, end: u32) -> bool
+    ensures { result ≡ cond (eqb sample.status 0) (ltb sample.value end) (eqb sample.status 2 && eqb sample.value 0) }
+{
+    if sample.status == 0 {
+        sample.value < end
+    } else {
+        sample == Sample::FAILED
+    }
+}
+
 // The trigger of one bit: up where it rose, down where it fell.
+#[tactic(auto, unfolding(crate::specs::Occupancy::change))]
 fn change(old: u8, new: u8, up: u8, down: u8) -> u8
     ensures { result ≡ change old new up down }
 {
     if old < new {
         up
+    } else if new < old {
+        down
     } else {
-        if new < old { down } else { 0 }
+        0
     }
 }
 
+#[tactic(auto, unfolding(crate::specs::Occupancy::triggers))]
 fn triggers(old: u8, new: u8) -> u8
     ensures { result ≡ triggers old new }
 {
     change(old / 2 % 2, new / 2 % 2, 1, 2) | change(old % 2, new % 2, 8, 16)
 }
 
-// What waits once the triggers of a tick came: a trigger whose filter bit is 0, or that falls in a disabled time, is dropped.
+// What waits once the triggers of a tick came: a trigger whose filter bit is 0, or that falls in a disabled time, is
+// dropped.
+#[tactic(auto, unfolding(crate::specs::Occupancy::waits))]
 fn waits(settings: Settings, waiting: u8, came: u8) -> u8
     ensures { result ≡ waits settings waiting came }
 {

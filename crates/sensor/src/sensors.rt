@@ -1,4 +1,5 @@
-// What a declaration declares: one of the sensors that are modelled. A further one is a case here, and an arm in `Instance::declared`.
+// What a declaration declares: one of the sensors that are modelled. A further one is a case here, and an arm in
+// `Instance::declared`.
 #[derive(Clone, Copy)]
 pub enum Sensor {
     Occupancy,

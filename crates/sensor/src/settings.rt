@@ -28,8 +28,26 @@ impl Settings {
 }
 
 // What the sensor measured. Status 0 is valid, 1 not ready, 2 physical failure.
-#[derive(Clone, Copy)]
+// A status stays a number: a sample may be given with any, and whether a type takes it is asked of the number.
+#[derive(Clone, Copy, PartialEq, Eq)]
 pub struct Sample {
     pub status: u8,
     pub value: u32,
+}
+
+impl Sample {
+    pub const STILL: Sample = Sample {
+        status: 0,
+        value: 0,
+    };
+
+    pub const UNREADY: Sample = Sample {
+        status: 1,
+        value: 0,
+    };
+
+    pub const FAILED: Sample = Sample {
+        status: 2,
+        value: 0,
+    };
 }

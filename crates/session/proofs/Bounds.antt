@@ -5,12 +5,14 @@ use Rattle.device.specs.Frame.{frame_log}
 use Rattle.device.specs.declared.model.Model.{Model}
 use Rattle.judging.proofs.Asking.{asked_size}
 use Rattle.judging.specs.Asked.{asked, size_of}
-use Rattle.judging.specs.declared.asked.Asked.TheVariants.{Declare, Frame, Hold, Refused, Ticks}
+use Rattle.judging.specs.declared.asked.Asked.TheVariants.{Declare, Frame, Hold, Ticks}
 use Rattle.judging.specs.declared.asked.Asked.{Asked}
+use Rattle.judging.specs.declared.asked.Refusal.{Refusal}
 use Rattle.record.proofs.Log.{bytes_append}
 use Rattle.record.specs.Log.{Logged, bytes_of}
 use Rattle.session.proofs.Laws.{ticking_refused, ticking_taken}
 use Rattle.session.specs.Session.{Step, fits, outcome, reading, refused, session, step, taken, ticking, for_c}
+use Rattle.std.specs.Prelude.{Err, Ok, Result}
 use Rattle.ticks.specs.Tick.{tick_log, tick_model}
 use borrow.Author.Tests.{leb-true}
 use lib.ListN.{drop, length, length-append, length-drop}
@@ -44,17 +46,17 @@ ticking_within (suc n) done room m log h =
     by true e more = rw (ticking_taken n done room m log e) (more e)
     by false e more = rw (ticking_refused n done room m log e) h
 
-step_within : (a : Asked) (room : ℕ) (m : Model) (log : List Logged) → length (bytes_of log) ≤ room → Within room (step a room m log)
+step_within : (a : Result Asked Refusal) (room : ℕ) (m : Model) (log : List Logged) → length (bytes_of log) ≤ room → Within room (step a room m log)
 unfolding step
-step_within (Refused why) room m log h = h
-step_within (Declare sensor) room m log h = h
-step_within (Hold i sample) room m log h = h
-step_within (Frame x y z) room m log h = by (fits room log (frame_log m x y z)) refl
+step_within (Err why) room m log h = h
+step_within (Ok (Declare sensor)) room m log h = h
+step_within (Ok (Hold i sample)) room m log h = h
+step_within (Ok (Frame x y z)) room m log h = by (fits room log (frame_log m x y z)) refl
   where
-    by : (b : Bool) → fits room log (frame_log m x y z) ≡ b → Within room (step (Frame x y z) room m log)
+    by : (b : Bool) → fits room log (frame_log m x y z) ≡ b → Within room (step (Ok (Frame x y z)) room m log)
     by true e = rw (e, step) (fits_within room log (frame_log m x y z) e h)
     by false e = rw (e, step) h
-step_within (Ticks n) room m log h = ticking_within n 0 room m log h
+step_within (Ok (Ticks n)) room m log h = ticking_within n 0 room m log h
 
 pub reading_within : (most : ℕ) (rest : List ℕ) (room at : ℕ) (m : Model) (log : List Logged) → length (bytes_of log) ≤ room
     → length (bytes_of (reading most rest room at m log).log) ≤ room
@@ -65,7 +67,7 @@ reading_within (suc most) (b ∷ rest) room at m log h =
     by (step a room m log) refl (step_within a room m log h)
     (λ m' log' h'. reading_within most (drop (size_of a) (b ∷ rest)) room (at + size_of a) m' log' h')
   where
-    a : Asked
+    a : Result Asked Refusal
     a = asked (b ∷ rest) m
 
     by : (s : Step) → step (asked (b ∷ rest) m) room m log ≡ s → Within room s
@@ -96,7 +98,7 @@ reading_offset (suc most) [] room at m log = omega arith
 reading_offset (suc most) (b ∷ rest) room at m log =
     by (step a room m log) refl (λ m' log'. reading_offset most (drop (size_of a) (b ∷ rest)) room (at + size_of a) m' log')
   where
-    a : Asked
+    a : Result Asked Refusal
     a = asked (b ∷ rest) m
 
     by : (s : Step) → step (asked (b ∷ rest) m) room m log ≡ s

@@ -9,6 +9,7 @@ use Rattle.judging.specs.declared.asked.Refusal.TheVariants.{Full}
 use Rattle.judging.specs.declared.asked.Refusal.{Refusal}
 use Rattle.record.specs.Log.{Logged}
 use Rattle.session.specs.Session.{fits, reading, refused, step, taken, ticking}
+use Rattle.std.specs.Prelude.{Result}
 use Rattle.ticks.specs.Tick.{tick_log, tick_model}
 use lib.ListN.{drop, length}
 use mathlib.Core.Bool.{false, true}
@@ -24,7 +25,7 @@ reading_done zero rest room at m log e = refl
 reading_done (suc most) [] room at m log e = refl
 reading_done (suc most) (b ∷ rest) room at m log e = absurd (suc-ne-zero (length rest) e)
 
-module _ (most room at : ℕ) (m : Model) (log : List Logged) {a : Asked} where
+module _ (most room at : ℕ) (m : Model) (log : List Logged) {a : Result Asked Refusal} where
   -- the record is taken
   pub reading_taken : (rest : List ℕ) → 0 < length rest → asked rest m ≡ a → {m' : Model} {log' : List Logged} → step a room m log ≡ taken m' log'
       → reading (suc most) rest room at m log ≡ reading most (drop (size_of a) rest) room (at + size_of a) m' log'

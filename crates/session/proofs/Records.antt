@@ -6,14 +6,16 @@ use Rattle.device.specs.Frame.{frame_log, frame_model}
 use Rattle.device.specs.declared.model.Model.{Model}
 use Rattle.judging.specs.Asked.{asked, size_of}
 use Rattle.judging.specs.Refusals.{number_of}
-use Rattle.judging.specs.declared.asked.Asked.TheVariants.{Declare, Frame, Hold, Refused, Ticks}
+use Rattle.judging.specs.declared.asked.Asked.TheVariants.{Declare, Frame, Hold, Ticks}
 use Rattle.judging.specs.declared.asked.Asked.{Asked}
 use Rattle.judging.specs.declared.asked.Refusal.TheVariants.{Full}
+use Rattle.judging.specs.declared.asked.Refusal.{Refusal}
 use Rattle.record.proofs.Log.{bytes_append}
 use Rattle.record.specs.Log.{Logged, bytes_of}
 use Rattle.session.proofs.Kept.{taken_size}
 use Rattle.session.proofs.Laws.{reading_done, reading_refused, reading_taken}
 use Rattle.session.specs.Session.{End, Step, fits, reading, refused, step, taken, ticking}
+use Rattle.std.specs.Prelude.{Err, Ok, Result}
 use Rattle.ticks.specs.Tick.{tick_log, tick_model}
 use lib.Dec.{leb}
 use lib.ListN.{drop, length, length-append, length-drop}
@@ -51,19 +53,19 @@ module _ (room : ℕ) (pre : List Logged) where
       go true ih = rw append_assoc ih
       go false ih = refl
 
-  pub step_behind : (a : Asked) (m : Model) (log : List Logged) → step a room m (pre ++ log) ≡ after_log pre (step a left m log)
+  pub step_behind : (a : Result Asked Refusal) (m : Model) (log : List Logged) → step a room m (pre ++ log) ≡ after_log pre (step a left m log)
   unfolding step
-  step_behind (Refused why) m log = refl
-  step_behind (Declare sensor) m log = refl
-  step_behind (Hold i sample) m log = refl
-  step_behind (Frame first second third) m log = rw (fits_behind log (frame_log m first second third), step) (go (fits left log (frame_log m first second third)))
+  step_behind (Err why) m log = refl
+  step_behind (Ok (Declare sensor)) m log = refl
+  step_behind (Ok (Hold i sample)) m log = refl
+  step_behind (Ok (Frame first second third)) m log = rw (fits_behind log (frame_log m first second third), step) (go (fits left log (frame_log m first second third)))
     where
       go : (b : Bool)
           → elim b [ true ↦ taken (frame_model m first second third) ((pre ++ log) ++ frame_log m first second third) | false ↦ refused Full 0 m (pre ++ log) ]
           ≡ after_log pre (elim b [ true ↦ taken (frame_model m first second third) (log ++ frame_log m first second third) | false ↦ refused Full 0 m log ])
       go true = rw append_assoc
       go false = refl
-  step_behind (Ticks n) m log = ticking_behind n 0 m log
+  step_behind (Ok (Ticks n)) m log = ticking_behind n 0 m log
 
 -- ---- a reading goes on by one record
 abbrev pub ended : (number at t : ℕ) → Model → List Logged → End

@@ -3,14 +3,16 @@
 use Prim.Native.Nat.{ℕ, zero, suc, ◌+◌, ◌-◌, ◌≤◌}
 use Rattle.device.specs.Frame.{frame_log}
 use Rattle.device.specs.declared.model.Model.{Model}
-use Rattle.judging.specs.declared.asked.Asked.TheVariants.{Declare, Frame, Hold, Refused, Ticks}
+use Rattle.judging.specs.declared.asked.Asked.TheVariants.{Declare, Frame, Hold, Ticks}
 use Rattle.judging.specs.declared.asked.Asked.{Asked}
 use Rattle.judging.specs.declared.asked.Refusal.TheVariants.{Full}
+use Rattle.judging.specs.declared.asked.Refusal.{Refusal}
 use Rattle.record.proofs.Log.{bytes_append}
 use Rattle.record.specs.Log.{Logged, bytes_of}
 use Rattle.session.proofs.Kept.{taken≢refused}
 use Rattle.session.proofs.Laws.{ticking_taken}
 use Rattle.session.specs.Session.{Step, fits, refused, step, taken, ticking}
+use Rattle.std.specs.Prelude.{Err, Ok, Result}
 use Rattle.ticks.proofs.Laws.{tick_last, tick_tick}
 use Rattle.ticks.specs.Tick.{tick_log, tick_model}
 use borrow.Author.Tests.{le-leb}
@@ -88,21 +90,21 @@ ticked (suc k) done room big m log m' log' e =
               ∙ ap (λ j. ticking n j big m' log') count;
         }
 
-pub roomier : (a : Asked) (room big : ℕ) (m : Model) (log : List Logged) (m' : Model) (log' : List Logged) → step a room m log ≡ taken m' log' → size log' ≤ big
+pub roomier : (a : Result Asked Refusal) (room big : ℕ) (m : Model) (log : List Logged) (m' : Model) (log' : List Logged) → step a room m log ≡ taken m' log' → size log' ≤ big
     → step a big m log ≡ taken m' log'
 unfolding step ticking
-roomier (Refused why) room big m log m' log' e h = absurd (taken≢refused (sym e))
-roomier (Declare sensor) room big m log m' log' e h = e
-roomier (Hold i sample) room big m log m' log' e h = e
-roomier (Frame first second third) room big m log m' log' e h = go (fits room log (frame_log m first second third)) refl
+roomier (Err why) room big m log m' log' e h = absurd (taken≢refused (sym e))
+roomier (Ok (Declare sensor)) room big m log m' log' e h = e
+roomier (Ok (Hold i sample)) room big m log m' log' e h = e
+roomier (Ok (Frame first second third)) room big m log m' log' e h = go (fits room log (frame_log m first second third)) refl
   where
-    go : (b : Bool) → fits room log (frame_log m first second third) ≡ b → step (Frame first second third) big m log ≡ taken m' log'
+    go : (b : Bool) → fits room log (frame_log m first second third) ≡ b → step (Ok (Frame first second third)) big m log ≡ taken m' log'
     go false f = absurd (taken≢refused (sym (rw (f, step) at e)))
     go true f =
         let w = rw (f, step) at e in
         let same : log ++ frame_log m first second third ≡ log' = cc in
         rw (fits_so big log (frame_log m first second third) (rw same h), step) w
-roomier (Ticks n) room big m log m' log' e h =
+roomier (Ok (Ticks n)) room big m log m' log' e h =
     ap (λ j. ticking j 0 big m log) (sym (add-zero n)) ∙ (ticked n 0 room big m log m' log' e).onward h 0
 
 -- ---- the ticks carried out before count in the ticks alone

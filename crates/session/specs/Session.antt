@@ -1,13 +1,13 @@
 -- Document 01, "Session and log records" and "Numbers given when a record is not taken": a session's records in turn, up to the first
 -- that is refused, even inside a tick count.
 -- Assumes nothing.
-use Rattle.std.specs.Prelude.{ℕ, zero, suc, ◌+◌, ◌-◌, leb, drop, length, Bool, false, true, List, [], ◌++◌, ◌∷◌}
+use Rattle.std.specs.Prelude.{ℕ, zero, suc, ◌+◌, ◌-◌, leb, drop, length, Bool, false, true, List, [], ◌++◌, ◌∷◌, Err, Ok, Result}
 use Rattle.device.specs.Device.{declared_model, held_model}
 use Rattle.device.specs.Frame.{frame_log, frame_model}
 use Rattle.device.specs.declared.model.Model.{Model}
 use Rattle.judging.specs.Asked.{asked, size_of}
 use Rattle.judging.specs.Refusals.{number_of}
-use Rattle.judging.specs.declared.asked.Asked.TheVariants.{Declare, Frame, Hold, Refused, Ticks}
+use Rattle.judging.specs.declared.asked.Asked.TheVariants.{Declare, Frame, Hold, Ticks}
 use Rattle.judging.specs.declared.asked.Asked.{Asked}
 use Rattle.judging.specs.declared.asked.Refusal.TheVariants.{Full}
 use Rattle.judging.specs.declared.asked.Refusal.{Refusal}
@@ -35,16 +35,16 @@ ticking (suc n) done room m log =
     ]
 
 -- what is asked for is done
-unfoldable pub step : Asked → (room : ℕ) → Model → List Logged → Step
-step (Refused why) room m log = refused why 0 m log
-step (Declare sensor) room m log = taken (declared_model m sensor) log
-step (Hold i sample) room m log = taken (held_model m i sample) log
-step (Frame first second third) room m log =
+unfoldable pub step : Result Asked Refusal → (room : ℕ) → Model → List Logged → Step
+step (Err why) room m log = refused why 0 m log
+step (Ok (Declare sensor)) room m log = taken (declared_model m sensor) log
+step (Ok (Hold i sample)) room m log = taken (held_model m i sample) log
+step (Ok (Frame first second third)) room m log =
     elim (fits room log (frame_log m first second third)) [
       | true ↦ taken (frame_model m first second third) (log ++ frame_log m first second third)
       | false ↦ refused Full 0 m log
     ]
-step (Ticks n) room m log = ticking n 0 room m log
+step (Ok (Ticks n)) room m log = ticking n 0 room m log
 
 -- where a reading ends: number, offset of the refused record (for 0 the session length), ticks of it carried out, model and log
 pub record End : Type 0 where

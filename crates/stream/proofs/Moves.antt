@@ -1,6 +1,6 @@
 -- A TK shortened to the ticks that remain, and what is kept of a buffer.
 -- Assumes nothing.
-use Rattle.std.proofs.Common.{◌≡◌, ℕ, ◌-◌, ◌≤◌, Bool, true, false, cond, eqb, ltb, List, ◌++◌, length, take, drop, sym, refl, ap, ◌∙◌, arith, length-drop, le-ltb, lt-ltb, ne_eqb}
+use Rattle.std.proofs.Common.{◌≡◌, ℕ, ◌-◌, ◌≤◌, Bool, true, false, cond, eqb, ltb, List, ◌++◌, length, take, drop, sym, refl, ap, ◌∙◌, arith, length-drop, le-ltb, lt-ltb}
 use Rattle.record.proofs.Laws.{put_front}
 use Rattle.record.specs.Marks.{mark_size, ticks}
 use Rattle.record.specs.Numbers.{word}
@@ -8,7 +8,7 @@ use Rattle.record.specs.Put.{put}
 use Rattle.record.specs.declared.marks.Mark.TheVariants.{Time}
 use Rattle.session.specs.Session.{End}
 use Rattle.stream.specs.Stream.{remaining, unread}
-use lib.Seq.{drop-append_seam, length-slice, sets, sets-eq, slice, take-append_seam}
+use lib.Seq.{drop-append_seam, length-slice, slice, take-append_seam}
 use native.Mathlib.Decide.{dec_le}
 
 -- ---- a TK shortened
@@ -26,20 +26,15 @@ pub unread_long : (e : End) (input : List ℕ) → length (unread e input) ≡ l
 unfolding unread
 unread_long e input = remaining_long e.ticks (drop e.offset input) ∙ length-drop e.offset input
 
--- a TK of the ticks that remain, stored byte by byte
-pub shortened : (rest : List ℕ) {done w n : ℕ} → (done ≡ 0 → ⊥) → mark_size Time ≤ length rest → w ≡ word rest 2 → n ≡ w - done → sets rest 0 (ticks n) ≡ remaining done rest
-unfolding remaining
-shortened rest {done} {w} {n} some long is_IsWord is-left = rw (ne_eqb done 0 some, le-ltb (length rest) (mark_size Time) long, ← is_IsWord, ← is-left) (sets-eq (ticks n) rest 0 long)
-
 -- what was moved to the front of `b` and then shortened there
 module _ (at end done : ℕ) (b : List ℕ) (h : (at ≤ end) × (end ≤ length b)) where
-  pub kept : {b₁ s : List ℕ} → b₁ ≡ put 0 (slice at end b) b → s ≡ remaining done (take (end - at - 0) b₁)
-      → s ++ drop (end - at - 0) b₁ ≡ put 0 (remaining done (slice at end b)) b
+  pub kept : {b₁ s : List ℕ} → b₁ ≡ put 0 (slice at end b) b → s ≡ remaining done (take (end - at) b₁)
+      → s ++ drop (end - at) b₁ ≡ put 0 (remaining done (slice at end b)) b
   kept {b₁} {s} moved-there short =
       let P = slice at end b in
       let R = remaining done P in
-      let long : end - at - 0 ≡ length P = omega (arith, length-slice at end b h.1) in
-      ap (λ (l : List ℕ). l ++ drop (end - at - 0) b₁) short
+      let long : end - at ≡ length P = omega (arith, length-slice at end b h.1) in
+      ap (λ (l : List ℕ). l ++ drop (end - at) b₁) short
       ∙ ap (λ (k : ℕ). remaining done (take k b₁) ++ drop k b₁) long
       ∙ ap (λ (l : List ℕ). remaining done (take (length P) l) ++ drop (length P) l) (moved-there ∙ put_front P b)
       ∙ ap (λ (l : List ℕ). remaining done l ++ drop (length P) (P ++ drop (length P) b)) (take-append_seam P (drop (length P) b))

@@ -1,30 +1,37 @@
 -- How records are records_in one by one.
 -- Assumes nothing.
-use Rattle.std.proofs.Common.{◌≡◌, ℕ, zero, suc, ◌+◌, ◌-◌, ◌<◌, ◌≤◌, cond, eqb, List, [], ◌∷◌, length, take, drop, sym, refl, ap, ◌∙◌, not-suc-le-zero, add_assoc, zero-add, suc-ne-zero, arith, length-drop, drop-drop, le-ltb, lt-ltb, eq-eqb, ne_eqb}
+use Rattle.std.proofs.Common.{◌≡◌, ℕ, zero, suc, ◌+◌, ◌-◌, ◌<◌, ◌≤◌, List, [], ◌∷◌, length, take, drop, sym, refl, ap, ◌∙◌, not-suc-le-zero, add_assoc, zero-add, suc-ne-zero, arith, length-drop, le-ltb, lt-ltb, None, Option, Some}
 use Rattle.record.proofs.Laws.{tail_whole}
-use Rattle.record.specs.Marks.{mark_of, mark_size}
+use Rattle.record.specs.Marks.{mark_of}
 use Rattle.record.specs.Numbers.{word}
+use Rattle.record.specs.declared.marks.Mark.TheVariants.{Bus, Declaration, Measurement, Time}
+use Rattle.record.specs.declared.marks.Mark.{Mark}
 use Rattle.stream.specs.Stream.{records_in, records_up_to, size_at, size_by}
 use native.Mathlib.Decide.{dec_le}
 
--- a size that is none goes for all
-size_some : (size all : ℕ) → 0 < all → 0 < cond (eqb size 0) all size
-size_some size all h = by (dec_le 1 size)
-  where
-    by : Dec (1 ≤ size) → 0 < cond (eqb size 0) all size
-    by (yes l) = rw (ne_eqb size 0 (λ e. omega arith)) l
-    by (no l) = rw (eq-eqb size 0 (omega arith)) h
+-- each kind has a size, and what is of none goes for all
+size_some : (mark : Option Mark) (all : ℕ) → 0 < all → 0 < size_by mark all
+unfolding size_by
+size_some None all h = h
+size_some (Some Declaration) all h = omega arith
+size_some (Some Measurement) all h = omega arith
+size_some (Some Bus) all h = omega arith
+size_some (Some Time) all h = omega arith
 
 -- a record has a byte at least, and not more than there are
 pub sized : (rest : List ℕ) → 0 < length rest → (0 < size_at rest) × (size_at rest ≤ length rest)
-unfolding size_at size_by
+unfolding size_at
 sized rest some = by (dec_le 2 (length rest))
   where
     by : Dec (2 ≤ length rest) → (0 < size_at rest) × (size_at rest ≤ length rest)
     by (yes h) =
-        let s = size_some (mark_size (mark_of (word rest 0))) (length rest) some in
+        let s = size_some (mark_of (word rest 0)) (length rest) some in
         rw (le-ltb _ _ h) (omega arith, omega arith)
     by (no h) = rw (lt-ltb (length rest) 2 (omega arith)) (some, omega arith)
+
+-- what is left behind it is less
+pub left_less : (rest : List ℕ) {size : ℕ} → 0 < length rest → size ≡ size_at rest → length (take (length rest - size) (drop size rest)) < length rest
+left_less rest {size} some e = let s : (0 < size) × (size ≤ length rest) = rw e (sized rest some) in rw (tail_whole size rest, length-drop) (omega (arith, s))
 
 counted_none : (most : ℕ) (rest : List ℕ) → length rest ≡ 0 → records_up_to most rest ≡ 0
 unfolding records_up_to
@@ -37,46 +44,33 @@ unfolding records_up_to
 counted_one most [] some = absurd (not-suc-le-zero some)
 counted_one most (b ∷ rest) some = refl
 
--- n records end at `at`, and the rest are records_in from there
-pub record Counting (bytes : List ℕ) (at n : ℕ) : Type 0 where
+-- n records lie before what is left, and the others are counted from there
+pub record Counting (bytes rest : List ℕ) (n : ℕ) : Type 0 where
   pub most : ℕ
-  pub enough : length bytes - at ≤ most
-  pub within : at ≤ length bytes
-  pub few : n ≤ at
-  pub same : records_in bytes ≡ n + records_up_to most (drop at bytes)
+  pub enough : length rest ≤ most
+  pub few : n + length rest ≤ length bytes
+  pub same : records_in bytes ≡ n + records_up_to most rest
 
-pub counting_start : (bytes : List ℕ) → Counting bytes 0 0
+pub counting_start : (bytes : List ℕ) → Counting bytes bytes 0
 unfolding records_in
-counting_start bytes = record { most = length bytes; enough = omega arith; within = omega arith; few = omega arith; same = sym (zero-add _) }
+counting_start bytes = record { most = length bytes; enough = omega arith; few = omega arith; same = sym (zero-add _) }
 
-module _ {bytes : List ℕ} {at n : ℕ} (k : Counting bytes at n) where
-  pub counting_done : length bytes ≤ at → n ≡ records_in bytes
-  counting_done over = omega (arith, k.same, counted_none k.most (drop at bytes) (rw length-drop (omega arith)))
+module _ {bytes rest : List ℕ} {n : ℕ} (k : Counting bytes rest n) where
+  pub counting_done : length rest ≡ 0 → n ≡ records_in bytes
+  counting_done none = omega (arith, k.same, counted_none k.most rest none)
 
-  module _ {size : ℕ} (more : at < length bytes) (e : size ≡ size_at (take (length bytes - at) (drop at bytes))) where
-    some : 0 < length (drop at bytes)
-    some = rw length-drop (omega arith)
+  pub counting_more : {size : ℕ} → 0 < length rest → size ≡ size_at rest → Counting bytes (take (length rest - size) (drop size rest)) (n + 1)
+  counting_more {size} some e = rw (tail_whole size rest) (by k.most k.enough k.same)
+    where
+      fits : (0 < size) × (size ≤ length rest)
+      fits = rw e (sized rest some)
 
-    size_is : size ≡ size_at (drop at bytes)
-    size_is = e ∙ ap size_at (tail_whole at bytes)
-
-    fits : (0 < size) × (at + size ≤ length bytes)
-    fits = let s = sized (drop at bytes) some in rw size_is (s.0, omega (arith, s.1, length-drop at bytes))
-
-    by : (most : ℕ) → length bytes - at ≤ most → records_in bytes ≡ n + records_up_to most (drop at bytes) → Counting bytes (at + size) (n + 1)
-    by zero enough same = absurd (omega arith)
-    by (suc most) enough same =
-        record {
-          most = most;
-          enough = omega (arith, fits);
-          within = fits.1;
-          few = omega (arith, fits);
-          same =
-              same
-              ∙ ap (λ (x : ℕ). n + x) (counted_one most (drop at bytes) some)
-              ∙ sym (add_assoc n 1 _)
-              ∙ ap (λ (l : List ℕ). n + 1 + records_up_to most l) (rw (← size_is) (drop-drop size at bytes));
-        }
-
-    pub counting_more : ((0 < size) × (at + size ≤ length bytes)) × Counting bytes (at + size) (n + 1)
-    counting_more = (fits, by k.most k.enough k.same)
+      by : (most : ℕ) → length rest ≤ most → records_in bytes ≡ n + records_up_to most rest → Counting bytes (drop size rest) (n + 1)
+      by zero enough same = absurd (omega arith)
+      by (suc most) enough same =
+          record {
+            most = most;
+            enough = omega (arith, fits, length-drop size rest);
+            few = omega (arith, fits, length-drop size rest, k.few);
+            same = same ∙ ap (λ (x : ℕ). n + x) (counted_one most rest some) ∙ sym (add_assoc n 1 _) ∙ ap (λ (s : ℕ). n + 1 + records_up_to most (drop s rest)) (sym e);
+          }

@@ -8,6 +8,7 @@ use Rattle.judging.specs.declared.asked.Asked.TheVariants.{Ticks}
 use Rattle.record.specs.Marks.{mark_of, mark_size, ticks}
 use Rattle.record.specs.Numbers.{word}
 use Rattle.record.specs.declared.marks.Mark.TheVariants.{Time}
+use Rattle.std.specs.Prelude.{Ok}
 use Rattle.stream.specs.Stream.{remaining}
 
 -- the two bytes of a count
@@ -15,7 +16,7 @@ pub count : (n : ℕ) → n / 256 * 256 + n % 256 ≡ n
 count n = omega arith
 
 -- a TK of ticks that can be counted asks for them, whatever follows it
-pub time_asked : (n : ℕ) (ys : List ℕ) (m : Model) → 0 < n → n ≤ 4294967295 - m.tick → m.tick + n ≤ m.last → asked (ticks n ++ ys) m ≡ Ticks n
+pub time_asked : (n : ℕ) (ys : List ℕ) (m : Model) → 0 < n → n ≤ 4294967295 - m.tick → m.tick + n ≤ m.last → asked (ticks n ++ ys) m ≡ Ok (Ticks n)
 unfolding asked_by mark_of ticks_asked
 time_asked n ys m some h k =
     marked (ticks n ++ ys) m (omega arith)

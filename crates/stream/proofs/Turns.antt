@@ -14,15 +14,14 @@ use Rattle.stream.specs.declared.Progress.{Progress}
 use Rattle.stream.specs.declared.Stepped.{Stepped}
 use lib.Seq.{slice, take-append_seam}
 use native.Mathlib.Decide.{dec_le}
-use native.Mathlib.Nat.{sub-zero}
 
 -- the offset lies in what was read
-pub within : (m : Model) (end : ℕ) (input : List ℕ) (room : ℕ) {o : Outcome} → o ≡ outcome (session m (take (end - 0) input) room) → o.offset ≤ end
+pub within : (m : Model) (end : ℕ) (input : List ℕ) (room : ℕ) {o : Outcome} → o ≡ outcome (session m (take end input) room) → o.offset ≤ end
 unfolding outcome
-within m end input room e = omega (arith, ap (λ (x : Outcome). x.offset) e, session_offset m (take (end - 0) input) room, length-take (end - 0) input)
+within m end input room e = omega (arith, ap (λ (x : Outcome). x.offset) e, session_offset m (take end input) room, length-take end input)
 
 module _ (p : Progress) (came : ℕ) (input output : List ℕ) {end : ℕ} {o : Outcome} (is-end : end ≡ min (p.unread + came) (length input))
-    (is_read : o ≡ outcome (session p.model (take (end - 0) input) (length output))) where
+    (is_read : o ≡ outcome (session p.model (take end input) (length output))) where
   is_held : take end input ≡ held p came input
   is_held = by (dec_le (p.unread + came) (length input))
     where
@@ -30,15 +29,12 @@ module _ (p : Progress) (came : ℕ) (input output : List ℕ) {end : ℕ} {o : 
       by (yes h) = let e : end ≡ p.unread + came = omega arith in ap (λ (k : ℕ). take k input) e
       by (no h) = take_all end input (omega arith) ∙ sym (take_all (p.unread + came) input (omega arith))
 
-  is_lent : take (end - 0) input ≡ held p came input
-  is_lent = ap (λ (k : ℕ). take k input) (sub-zero end) ∙ is_held
-
   is_ended : o ≡ outcome (ended p came input output)
   unfolding ended
-  is_ended = is_read ∙ ap (λ (l : List ℕ). outcome (session p.model l (length output))) is_lent
+  is_ended = is_read ∙ ap (λ (l : List ℕ). outcome (session p.model l (length output))) is_held
 
   -- the three parts of a step's promise
-  pub step_comes : {n left records passed : ℕ} → n ≡ records_in (take (o.offset - 0) input) → left ≡ end - o.offset
+  pub step_comes : {n left records passed : ℕ} → n ≡ records_in (take o.offset input) → left ≡ end - o.offset
       → records ≡ (p.records + n) % 2 ^ 64 → passed ≡ (p.passed + o.offset) % 2 ^ 64
       → ◌≡◌ {A = Stepped} (record { progress = record { model = o.model; unread = left; number = o.number; records = records; passed = passed }; written = o.written }) (stepped p came input output)
   unfolding stepped progressed outcome
@@ -47,7 +43,7 @@ module _ (p : Progress) (came : ℕ) (input output : List ℕ) {end : ℕ} {o : 
       let at : o.offset ≡ e.offset = ap (λ (x : Outcome). x.offset) is_ended in
       let inside : e.offset ≤ p.unread + came = omega (arith, within p.model end input (length output) is_read) in
       let taken : n ≡ records_in (take e.offset (held p came input)) =
-      is-n ∙ ap (λ (k : ℕ). records_in (take k input)) (sub-zero o.offset ∙ at) ∙ ap records_in (sym (take-take e.offset (p.unread + came) input inside)) in
+      is-n ∙ ap (λ (k : ℕ). records_in (take k input)) at ∙ ap records_in (sym (take-take e.offset (p.unread + came) input inside)) in
       let rest : left ≡ length (held p came input) - e.offset = omega (arith, length-take (p.unread + came) input) in
       let counts : records ≡ (p.records + records_in (take e.offset (held p came input))) % 2 ^ 64 = is-records ∙ ap (λ (k : ℕ). (p.records + k) % 2 ^ 64) taken in
       let passes : passed ≡ (p.passed + e.offset) % 2 ^ 64 = is-passed ∙ ap (λ (k : ℕ). (p.passed + k) % 2 ^ 64) at in
@@ -65,9 +61,9 @@ module _ (p : Progress) (came : ℕ) (input output : List ℕ) {end : ℕ} {o : 
       ∙ ap (λ (x : Outcome). put 0 (remaining x.ticks (drop x.offset (take end input))) input) is_ended
       ∙ ap (λ (l : List ℕ). put 0 (remaining a.ticks (drop a.offset l)) input) is_held
 
-  pub step_logged : {out : List ℕ} → out ≡ put 0 (bytes_of (session p.model (take (end - 0) input) (length output)).log) output → out ≡ output_after p came input output
+  pub step_logged : {out : List ℕ} → out ≡ put 0 (bytes_of (session p.model (take end input) (length output)).log) output → out ≡ output_after p came input output
   unfolding output_after ended
-  step_logged e = e ∙ ap (λ (l : List ℕ). put 0 (bytes_of (session p.model l (length output)).log) output) is_lent
+  step_logged e = e ∙ ap (λ (l : List ℕ). put 0 (bytes_of (session p.model l (length output)).log) output) is_held
 
 -- ---- after a step
 front : (l b : List ℕ) → take (length l) (put 0 l b) ≡ l

@@ -1,7 +1,7 @@
 -- Document 01, "The bench model": a session read in pieces. After number 2 it goes on with more input, after 9 with an emptied output
 -- and, inside a TK, a TK of the ticks that remain.
 -- Assumes nothing.
-use Rattle.std.specs.Prelude.{◌≡◌, ℕ, zero, suc, ◌+◌, ◌-◌, ◌%◌, ◌^◌, ◌≤◌, min, Bool, true, false, cond, not, List, [], ◌∷◌, ◌++◌, length, take, drop, ◌==◌, nat_lt}
+use Rattle.std.specs.Prelude.{◌≡◌, ℕ, zero, suc, ◌+◌, ◌-◌, ◌%◌, ◌^◌, ◌≤◌, min, Bool, true, false, cond, not, List, [], ◌∷◌, ◌++◌, length, take, drop, ◌==◌, nat_lt, Option, Some, None}
 use Rattle.device.specs.declared.model.Model.{Model}
 use Rattle.record.specs.Log.{bytes_of}
 use Rattle.record.specs.Marks.{mark_of, mark_size, ticks}
@@ -40,8 +40,9 @@ unread e input = remaining e.ticks (drop e.offset input)
 
 -- ---- the records in bytes that were taken
 -- a record's size by its mark; what no known mark begins goes for one record, all of it
-unfoldable pub size_by : Mark → (all : ℕ) → ℕ
-size_by mark all = cond (mark_size mark == 0) all (mark_size mark)
+unfoldable pub size_by : Option Mark → (all : ℕ) → ℕ
+size_by None all = all
+size_by (Some mark) all = mark_size mark
 
 -- the size of the record at the front, not more than there is
 unfoldable pub size_at : List ℕ → ℕ

@@ -19,8 +19,9 @@ pub enum Next {
     Over,
 }
 
-// What goes from one step to the next. unread: the bytes at the front of the input buffer that the next step begins with. number: the last
-// step's. records, passed: the records taken whole, and their bytes.
+// What goes from one step to the next. unread: the bytes at the front of the input buffer that the next step begins
+// with. number: the last step's; it stays one, as the outcome of a reading has it. records, passed: the records taken
+// whole, and their bytes.
 #[derive(Clone, Copy)]
 pub struct Progress {
     pub model: Model,
@@ -38,6 +39,7 @@ pub struct Stepped {
 }
 
 // From that model, with nothing read.
+#[tactic(auto, unfolding(crate::specs::Stream::begun))]
 pub fn begin(start: Model) -> Progress
     ensures { result ≡ begun start }
 {
@@ -51,23 +53,24 @@ pub fn begin(start: Model) -> Progress
 }
 
 // After 2 it goes on with more input, after 9 with an emptied output. After 0 all was read, and more may come.
+// It takes a number and no refusal: what it promises, it promises of every number, which a step's progress holds.
+#[tactic(auto, unfolding(crate::specs::Stream::next_after))]
 pub fn next_after(number: u8) -> Next
     ensures { result ≡ next_after number }
 {
     match number {
-        0 => Next::MoreInput,
-        2 => Next::MoreInput,
+        0 | 2 => Next::MoreInput,
         9 => Next::EmptiedOutput,
         _ => Next::Over,
     }
 }
 
 // Whether there is another step. ended: no more input can come.
+#[tactic(auto, unfolding(crate::specs::Stream::goes_on))]
 pub fn goes_on(number: u8, ended: bool) -> bool
     ensures { result ≡ goes_on number ended }
 {
-    let next = next_after(number);
-    match next {
+    match next_after(number) {
         Next::MoreInput => !ended,
         Next::EmptiedOutput => true,
         Next::Over => false,
@@ -76,25 +79,23 @@ pub fn goes_on(number: u8, ended: bool) -> bool
 
 // Reads what is held, the unread bytes and the `came` bytes behind them, and moves what is unread then to the front of the input buffer:
 // inside a TK, a TK of the ticks that remain.
+#[tactic(auto, using(crate::proofs::Turns::within))]
 pub fn step(p: Progress, came: usize, input: &mut [u8], output: &mut [u8]) -> Stepped
     ensures { (result ≡ stepped p came input.old output.old) × (input.new ≡ input_after p came input.old output.old) × (output.new ≡ output_after p came input.old output.old) }
 {
     let end = held(p.unread, came, input.len());
-    let o = session::read(p.model, &input[0..end], output);
+    let o = session::read(p.model, &input[..end], output);
     let at = o.offset;
-    let taken = records_in(&input[0..at]);
+    let taken = records_in(&input[..at]);
     keep(input, at, end, o.ticks);
-    let left = end - at;
-    let model = o.model;
-    let progress = Progress {
-        model,
-        unread: left,
-        number: o.number,
-        records: std::num::wrapping_add_u64(p.records, taken),
-        passed: std::num::wrapping_add_u64(p.passed, at as u64),
-    };
     Stepped {
-        progress,
+        progress: Progress {
+            model: o.model,
+            unread: end - at,
+            number: o.number,
+            records: p.records.wrapping_add(taken),
+            passed: p.passed.wrapping_add(at as u64),
+        },
         written: o.written,
     }
 }
@@ -103,45 +104,41 @@ pub fn step(p: Progress, came: usize, input: &mut [u8], output: &mut [u8]) -> St
 fn held(unread: usize, came: usize, all: usize) -> usize
     ensures { result ≡ min (unread + came) all }
 {
-    if unread < all {
-        unread + least(came, all - unread)
-    } else {
-        all
-    }
+    unread.saturating_add(came).min(all)
 }
 
 // The records in bytes that were taken.
+#[tactic(auto, using(crate::proofs::Records::sized))]
 fn records_in(bytes: &[u8]) -> u64
     ensures { result ≡ records_in bytes.now }
 {
-    let mut at: usize = 0;
+    let mut rest = bytes;
     let mut n: u64 = 0;
-    while at < bytes.len() {
-        let size = size_at(&bytes[at..]);
-        at += size;
+    while !rest.is_empty() {
+        rest = &rest[size_at(rest)..];
         n += 1;
     }
     n
 }
 
 // The size of the record at the front, not more than there is.
+#[tactic(auto, unfolding(crate::specs::Stream::size_at))]
 fn size_at(rest: &[u8]) -> usize
     ensures { result ≡ size_at rest.now }
 {
     let all = rest.len();
-    if all < 2 {
+    let [first, second, ..] = *rest else {
         return all;
-    }
-    let size = size_by(record::word(rest[0], rest[1]), all);
-    least(size, all)
+    };
+    size_by(record::word(first, second), all).min(all)
 }
 
 // By its mark; what no known mark begins goes for one record, all of it.
+#[tactic(auto, unfolding(crate::specs::Stream::size_by))]
 fn size_by(letters: u16, all: usize) -> usize
     ensures { result ≡ size_by (mark_of letters) all }
 {
-    let size = record::mark_size(record::mark_of(letters));
-    if size == 0 { all } else { size }
+    record::mark_of(letters).map_or(all, |mark| mark.size())
 }
 
 // Keeps what is unread, from `at` up to `end`: it goes to the front. Of its first record `done` ticks were carried out.
@@ -149,38 +146,20 @@ fn keep(bytes: &mut [u8], at: usize, end: usize, done: u16)
     requires { (at ≤ end) × (end ≤ length bytes.old) }
     ensures { bytes.new ≡ put 0 (remaining done (slice at end bytes.old)) bytes.old }
 {
-    let left = end - at;
     record::to_front(bytes, at, end);
-    shorten(&mut bytes[0..left], done);
+    shorten(&mut bytes[..end - at], done);
 }
 
 // The record at the front was carried out for `done` ticks. Where that is above 0 it is a TK, and one of the ticks that remain takes its
 // place.
+#[tactic(auto, unfolding(crate::specs::Stream::remaining))]
 fn shorten(rest: &mut [u8], done: u16)
     ensures { rest.new ≡ remaining done rest.old }
 {
-    if done == 0 {
+    if done == 0 || rest.len() < Mark::TK_SIZE {
         return;
     }
-    if rest.len() < Mark::TK_SIZE {
-        return;
-    }
-    let left = less(record::word(rest[2], rest[3]), done);
-    rest[0] = (Mark::TK / 256) as u8;
-    rest[1] = (Mark::TK % 256) as u8;
-    rest[2] = (left / 256) as u8;
-    rest[3] = (left % 256) as u8;
-}
-
-// The ticks of n that remain.
-fn less(n: u16, done: u16) -> u16
-    ensures { result ≡ n - done }
-{
-    if done < n { n - done } else { 0 }
-}
-
-fn least(a: usize, b: usize) -> usize
-    ensures { result ≡ min a b }
-{
-    if a < b { a } else { b }
+    let left = record::word(rest[2], rest[3]).saturating_sub(done);
+    rest[..2].copy_from_slice(&Mark::TK.to_be_bytes());
+    rest[2..4].copy_from_slice(&left.to_be_bytes());
 }

@@ -1,21 +1,22 @@
 -- Quiet ticks in one step: each of them logs nothing and lets timers fall, so that all come to the rested device.
 -- Assumes nothing.
 use Prim.Native.Nat.{ℕ, min, suc, zero, ◌+◌, ◌-◌, ◌<◌, ◌^◌, ◌≤◌}
-use Rattle.device.specs.Device.{under_way, with_instance, with_instances, with_tick}
+use Rattle.device.specs.Device.{declared_instances, under_way, with_instances, with_tick}
 use Rattle.device.specs.declared.model.Model.{Model}
 use Rattle.sensor.proofs.Laws.{both}
 use Rattle.sensor.proofs.Quiet.{quiet_tick, rested_none}
 use Rattle.sensor.specs.Quiet.{quiet_for, rested}
 use Rattle.sensor.specs.declared.instance.Instance.{Instance}
 use Rattle.sensor.specs.declared.instance.Ticked.{Ticked}
-use Rattle.ticks.proofs.Sweep.{capped, sweep_more}
+use Rattle.ticks.proofs.Sweep.{sweep_first_of, sweep_more}
 use Rattle.ticks.specs.Quiet.{in_time, pass_log, pass_model, pass_ticks, quiet_all, quiet_ticks, rest_model}
 use Rattle.ticks.specs.Tick.{on_tick, sent_log, sweep, sweep_log, tick_log, tick_model}
 use borrow.Author.Tests.{le-leb, leb-true, lt-ltb, ltb-true, ne_eqb}
 use lib.Dec.{eqb}
-use lib.ListN.{get_or, length, take}
+use lib.ListN.{drop, get_or, length, set, take}
+use lib.Seq.{take_all}
 use mathlib.Core.Bool.{false, true}
-use mathlib.Core.List.{List, [], ◌∷◌}
+use mathlib.Core.List.{List, [], map, ◌++◌, ◌∷◌}
 use mathlib.Core.Path.{ap, refl, sym, ◌≡◌, ◌∙◌}
 use native.Mathlib.Decide.{dec_le}
 use native.Mathlib.Nat.{le_of_suc-le-suc, not-suc-le-zero}
@@ -134,36 +135,29 @@ pub quiet_turn : (most k : ℕ) (xs : List Instance) (d : Instance) {t q r : ℕ
 quiet_turn most k xs d h p q e = rw (add-one, quiet_more most k xs d h, e, p, q)
 
 -- one that may send is enough
-quiet_none : (most k n : ℕ) (xs : List Instance) (d : Instance) → k < n → k < length xs → quiet_for (get_or xs k d) ≡ 0 → quiet_all most (take n xs) ≡ 0
+quiet_none : (most k : ℕ) (xs : List Instance) (d : Instance) → k < length xs → quiet_for (get_or xs k d) ≡ 0 → quiet_all most xs ≡ 0
 unfolding quiet_all
-quiet_none most k zero xs d h w e = absurd (not-suc-le-zero h)
-quiet_none most k (suc n) [] d h w e = absurd (not-suc-le-zero w)
-quiet_none most zero (suc n) (x ∷ xs) d h w e = rw e (omega arith)
-quiet_none most (suc k) (suc n) (x ∷ xs) d h w e = rw (quiet_none most k n xs d (le_of_suc-le-suc h) (le_of_suc-le-suc w) e) (omega arith)
+quiet_none most k [] d h e = absurd (not-suc-le-zero h)
+quiet_none most zero (x ∷ xs) d h e = rw e (omega arith)
+quiet_none most (suc k) (x ∷ xs) d h e = rw (quiet_none most k xs d (le_of_suc-le-suc h) e) (omega arith)
 
-module _ (m : Model) (most : ℕ) (all : length m.instances ≡ 16) where
-  -- all of at most 16 are all that are declared
-  quiet_whole : quiet_all most (take (min m.declared 16) m.instances) ≡ quiet_ticks m most
-  unfolding quiet_ticks
-  quiet_whole = rw (capped m.declared m.instances all).0
+module _ (m : Model) (most i : ℕ) {xs : List Instance} (e : xs ≡ declared_instances m) where
+  pub quiet_stop : (d : Instance) {q : ℕ} → i < length xs → q ≡ quiet_for (get_or xs i d) → q ≡ 0 → 0 ≡ quiet_ticks m most
+  unfolding quiet_ticks declared_instances
+  quiet_stop d h p z = sym (ap (quiet_all most) (sym e) ∙ quiet_none most i xs d h (sym p ∙ z))
 
-  pub quiet_asked : {i t : ℕ} → i ≡ min m.declared 16 → t ≡ quiet_all most (take i m.instances) → t ≡ quiet_ticks m most
-  quiet_asked e p = p ∙ rw e quiet_whole
+  pub quiet_asked : {t : ℕ} → length xs ≤ i → t ≡ quiet_all most (take i xs) → t ≡ quiet_ticks m most
+  unfolding quiet_ticks declared_instances
+  quiet_asked past p = p ∙ ap (quiet_all most) (take_all i xs past ∙ e)
 
-  pub quiet_stop : (i : ℕ) (d : Instance) {q : ℕ} → i < min m.declared 16 → q ≡ quiet_for (get_or m.instances i d) → q ≡ 0 → 0 ≡ quiet_ticks m most
-  quiet_stop i d h p z = sym (quiet_none most i (min m.declared 16) m.instances d h (omega arith) (sym p ∙ z)) ∙ quiet_whole
-
--- ---- the loop of `rest`
--- the device once its first i instances have rested
-abbrev pub rest_first : (n i : ℕ) → Model → Model
-rest_first n i m = with_instances (sweep i (resting n) m.instances) m
-
+-- ---- the loop of `rest_all`
 -- one more instance rests
-pub rest_turn : (n i : ℕ) (m₀ m : Model) (d y : Instance) → m ≡ rest_first n i m₀ → i < length m₀.instances → y ≡ rested (get_or m.instances i d) n
-    → with_instance i y m ≡ rest_first n (i + 1) m₀
-rest_turn n i m₀ m d y e h p = rw (e, sweep_more (resting n) i m₀.instances d y h (rw e at p))
+pub rest_turn : (n i : ℕ) (xs₀ xs : List Instance) (d y : Instance) → xs ≡ sweep i (resting n) xs₀ → i < length xs₀ → y ≡ rested (get_or xs i d) n
+    → set xs i y ≡ sweep (i + 1) (resting n) xs₀
+rest_turn n i xs₀ xs d y e h p = rw e (sweep_more (resting n) i xs₀ d y h (rw e at p))
 
-pub rest_whole : (m : Model) (n : ℕ) → length m.instances ≡ 16
-    → under_way (with_tick (m.tick + n) (with_instances (sweep (min m.declared 16) (resting n) m.instances) m)) ≡ rest_model m n
-unfolding rest_model sweep
-rest_whole m n all = rw ((capped m.declared m.instances all).0, (capped m.declared m.instances all).1)
+-- the device after n quiet ticks, of which the first k instances are declared
+pub rested_model : (m : Model) (n k : ℕ) {ys : List Instance} → k ≡ length (declared_instances m) → ys ≡ map (resting n) (take k m.instances)
+    → under_way (with_tick (m.tick + n) (with_instances (ys ++ drop k m.instances) m)) ≡ rest_model m n
+unfolding rest_model declared_instances
+rested_model m n k {ys} e p = rw (sweep_first_of (resting n) m.declared k m.instances ys e p)

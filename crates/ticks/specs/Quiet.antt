@@ -1,9 +1,11 @@
 -- Ticks at which no instance sends are carried out in one step: how many there are, and the device after them.
 -- Assumes nothing.
-use Rattle.std.specs.Prelude.{ℕ, max, min, ◌+◌, ◌-◌, eqb, leb, ltb, take, Bool, cond, ◌&&◌, List, [], ◌∷◌}
-use Rattle.device.specs.Device.{under_way, offered, with_instances, with_tick}
+use Rattle.std.specs.Prelude.{ℕ, max, min, ◌+◌, ◌-◌, eqb, leb, ltb, take, Bool, cond, ◌&&◌, List, [], ◌∷◌, Err, Ok, Result, length, ◌≡◌}
+use Rattle.device.specs.Device.{Offered, came, under_way, offered, with_instances, with_tick}
+use Rattle.device.specs.declared.model.Full.{Full}
 use Rattle.device.specs.declared.model.Model.{Model}
-use Rattle.record.specs.Log.{Logged}
+use Rattle.record.specs.Log.{Logged, bytes_of}
+use Rattle.record.specs.Put.{Appended}
 use Rattle.sensor.specs.Quiet.{quiet_for, rested}
 use Rattle.sensor.specs.declared.instance.Instance.{Instance}
 use Rattle.ticks.specs.Tick.{sweep, tick_log, tick_model}
@@ -35,5 +37,20 @@ pass_model m most = cond (in_time m most) (cond (eqb (quiet_ticks m most) 0) (ti
 unfoldable pub pass_log : Model → (most : ℕ) → List Logged
 pass_log m most = cond (in_time m most) (cond (eqb (quiet_ticks m most) 0) (tick_log m) []) []
 
-unfoldable pub passed : Model → (most room : ℕ) → Passed
+-- what came of a step: how many ticks it was, and what they offered
+pub record Passing : Type 0 where
+  pub ticks : ℕ
+  pub offered : Offered
+
+unfoldable pub passed : Model → (most room : ℕ) → Passing
 passed m most room = record { ticks = pass_ticks m most; offered = offered m (pass_model m most) (pass_log m most) room }
+
+-- what came of it, by the device after it and what is handed back: a step that does not fit is one tick
+abbrev pub stepped : Model → Result Passed Full → Passing
+stepped m (Ok p) = record { ticks = p.ticks; offered = came m (Ok p.written) }
+stepped m (Err full) = record { ticks = 1; offered = came m (Err full) }
+
+-- a step was offered to the output's tail: the device is m' then, the tail tail', and r is handed back
+pub record Steps (m : Model) (most : ℕ) (m' : Model) (r : Result Passed Full) (tail tail' : List ℕ) : Type 0 where
+  pub taken : stepped m' r ≡ passed m most (length tail)
+  pub appended : Appended 0 (bytes_of (pass_log m most)) tail tail' (stepped m' r).offered.written

@@ -1,93 +1,78 @@
 // Ticks at which no instance sends are carried out in one step. What comes of them is what comes of them one by one.
-ghost use Rattle.std.specs.Prelude.{◌+◌, ◌<◌, ◌^◌, min, length, ◌≡◌};
-ghost use Rattle.record.specs.Log.{bytes_of};
-ghost use Rattle.record.specs.Put.{Appended};
-ghost use Rattle.ticks.specs.Quiet.{in_time, pass_log, passed, quiet_ticks, rest_model};
+ghost use Rattle.std.specs.Prelude.{map, ◌+◌, ◌<◌, ◌^◌, ◌≡◌};
+ghost use Rattle.sensor.specs.Quiet.{rested};
+ghost use Rattle.ticks.specs.Quiet.{Steps, in_time, quiet_ticks, rest_model};
 
-use crate::tick::{places, tick};
-use device::{Model, Offered};
+use crate::tick::tick;
+use device::{Full, Model};
+use sensor::Instance;
 
-// What came of a step: how many ticks it was, and what they offered. Ticks that do not fit were not carried out.
+// A step: how many ticks it was, and the bytes that they logged.
 #[derive(Clone, Copy)]
 pub struct Passed {
     pub ticks: u16,
-    pub offered: Offered,
+    pub written: usize,
 }
 
-// Of the next `most` ticks, the quiet ones in one step; or, where the next is none of them, that tick. Without a number for each, none.
-pub fn pass(model: Model, most: u16, tail: &mut [u8]) -> Passed
-    ensures { (result ≡ passed model most (length tail.old)) × Appended 0 (bytes_of (pass_log model most)) tail.old tail.new result.offered.written }
+// Of the next `most` ticks, the quiet ones in one step; or, where the next is none of them, that tick. Without a number
+// for each, none. A tick that does not fit was not carried out.
+pub fn pass(model: &mut Model, most: u16, tail: &mut [u8]) -> Result<Passed, Full>
+    ensures { Steps model.old most model.new result tail.old tail.new }
 {
     if !in_time(model, most) {
-        let offered = Offered {
-            model,
+        return Ok(Passed {
+            ticks: 0,
             written: 0,
-            fits: true,
-        };
-        return Passed { ticks: 0, offered };
+        });
     }
-    let n = quiet(model, most);
-    if n == 0 {
-        let offered = tick(model, tail);
-        return Passed { ticks: 1, offered };
+    let ticks = quiet(model, most);
+    if ticks == 0 {
+        let written = tick(model, tail)?;
+        return Ok(Passed { ticks: 1, written });
     }
-    let offered = Offered {
-        model: rest(model, n),
-        written: 0,
-        fits: true,
-    };
-    Passed { ticks: n, offered }
+    rest(model, ticks);
+    Ok(Passed { ticks, written: 0 })
 }
 
 // There are ticks left, and numbers for them.
-fn in_time(model: Model, most: u16) -> bool
-    ensures { result ≡ in_time model most }
+#[tactic(auto, unfolding(crate::specs::Quiet::in_time))]
+fn in_time(model: &Model, most: u16) -> bool
+    ensures { result ≡ in_time model.now most }
 {
-    (0 < most) & (most as u32 <= 4294967295 - model.tick)
+    let tick = model.tick;
+    0 < most && most as u32 <= u32::MAX - tick
 }
 
 // How many of the next `most` ticks are quiet. One instance that may send is enough to know.
-fn quiet(model: Model, most: u16) -> u16
-    ensures { result ≡ quiet_ticks model most }
+fn quiet(model: &Model, most: u16) -> u16
+    ensures { result ≡ quiet_ticks model.now most }
 {
-    let n = places(model.declared);
     let mut ticks = most;
-    let mut i: usize = 0;
-    while i < n {
-        let x = model.instances[i];
+    for x in model.declared() {
         let its = x.quiet_for();
         if its == 0 {
             return 0;
         }
-        ticks = least(ticks, its);
-        i += 1;
+        ticks = its.min(ticks as u32) as u16;
     }
     ticks
 }
 
 // The device after n quiet ticks.
-fn rest(model: Model, n: u16) -> Model
-    requires { model.tick + n < 2 ^ 32 }
-    ensures { result ≡ rest_model model n }
+fn rest(model: &mut Model, n: u16)
+    requires { model.old.tick + n < 2 ^ 32 }
+    ensures { model.new ≡ rest_model model.old n }
 {
-    let ticks = n as u32;
-    let now = model.tick + ticks;
-    let known = places(model.declared);
-    let mut m = model;
-    m.tick = now;
-    m.running = true;
-    let mut i: usize = 0;
-    while i < known {
-        let x = m.instances[i];
-        let y = x.rested(ticks);
-        m.instances[i] = y;
-        i += 1;
-    }
-    m
+    model.tick += n as u32;
+    model.running = true;
+    let declared = model.declared().len();
+    rest_all(&mut model.instances[..declared], n as u32);
 }
 
-fn least(a: u16, b: u32) -> u16
-    ensures { result ≡ min a b }
+fn rest_all(instances: &mut [Instance], n: u32)
+    ensures { instances.new ≡ map (λ (x : Instance). rested x n) instances.old }
 {
-    if b < a as u32 { b as u16 } else { a }
+    for x in instances.iter_mut() {
+        *x = x.rested(n);
+    }
 }

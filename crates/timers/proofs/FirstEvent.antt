@@ -1,12 +1,12 @@
 -- THE FIRST EVENT of an enabled instance whose filter lets the report out: by the first due report at the latest.
 -- Assumes nothing.
 use Prim.Native.Nat.{ℕ, zero, suc, max, ◌+◌, ◌-◌, ◌<◌, ◌≤◌}
+use Rattle.std.specs.Prelude.{Some}
 use Rattle.timers.specs.Decision.{after, decided, sends}
 use Rattle.timers.specs.Pace.{noted, sendings}
 use Rattle.timers.specs.Timers.{due, fallen, fallen_report}
 use Rattle.timers.specs.declared.Decision.TheVariants.{Reported, Silent, Triggered}
 use Rattle.timers.specs.declared.Decision.{Decision}
-use Rattle.timers.specs.declared.Report.TheVariants.{Left}
 use Rattle.timers.specs.declared.Rules.{Rules}
 use Rattle.timers.specs.declared.Timers.{Timers}
 use borrow.Author.Tests.{ne_eqb}
@@ -24,7 +24,7 @@ Soon now k events = (e : ℕ) × Memᴰ e events × (now < e) × (e ≤ now + ma
 
 module _ (r : Rules) (on : r.enabled ≡ true) (lets : r.repeat ≡ true) where
   abbrev running : (d k : ℕ) → Timers
-  running d k = record { dead = d; report = Left k }
+  running d k = record { dead = d; report = Some k }
 
   decided_so : (d k : ℕ) (c : Bool) → decided r true (running d k) c ≡ cond (eqb d 0) (cond c Triggered (cond (eqb k 0 && true) Reported Silent)) Silent
   unfolding decided due

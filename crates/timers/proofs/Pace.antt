@@ -6,6 +6,7 @@ mod Gap
 mod LowerCount
 mod UpperCount
 use Prim.Native.Nat.{ℕ, zero, suc, ◌+◌, ◌-◌, ◌<◌, ◌≤◌, max}
+use Rattle.std.specs.Prelude.{Some}
 use Rattle.timers.proofs.Pace.Apart.{Spaced}
 use Rattle.timers.proofs.Pace.Gap.{no_gap}
 use Rattle.timers.proofs.Pace.LowerCount.{lower_count}
@@ -15,7 +16,6 @@ use Rattle.timers.specs.Pace.{Paced, Reporting, noted, sendings}
 use Rattle.timers.specs.Timers.{dead_time, due, fallen, fallen_report, report_time, started, started_report}
 use Rattle.timers.specs.declared.Decision.TheVariants.{Reported, Silent, Triggered}
 use Rattle.timers.specs.declared.Decision.{Decision}
-use Rattle.timers.specs.declared.Report.TheVariants.{Left}
 use Rattle.timers.specs.declared.Rules.{Rules}
 use Rattle.timers.specs.declared.Timers.{Timers}
 use borrow.Author.Tests.{ne_eqb}
@@ -43,7 +43,7 @@ decision dead report cause = cond (eqb dead 0) (cond cause Triggered (cond (eqb 
 
 -- the timers k ticks after an event, if none came since
 abbrev pub since : Rules → ℕ → Timers
-since r k = record { dead = dead_time r - k; report = Left (report_time r - k) }
+since r k = record { dead = dead_time r - k; report = Some (report_time r - k) }
 
 whole : (n : ℕ) → n ≡ n - 0
 whole n = omega arith
@@ -56,11 +56,11 @@ module _ (r : Rules) (g : Reporting r) where
 
   pub started_since : started r ≡ since r 0
   unfolding started started_report
-  started_since = rw (ne_eqb r.report 0 (λ e. omega (arith, g.set))) (λ i. record { dead = whole (dead_time r) i; report = Left (whole (report_time r) i) })
+  started_since = rw (ne_eqb r.report 0 (λ e. omega (arith, g.set))) (λ i. record { dead = whole (dead_time r) i; report = Some (whole (report_time r) i) })
 
   fallen_since : (k : ℕ) → fallen (since r k) ≡ since r (suc k)
   unfolding fallen fallen_report
-  fallen_since k = λ i. record { dead = p i; report = Left (q i) }
+  fallen_since k = λ i. record { dead = p i; report = Some (q i) }
     where
       p : dead_time r - k - 1 ≡ dead_time r - suc k
       p = omega arith

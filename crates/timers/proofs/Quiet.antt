@@ -1,12 +1,11 @@
 -- While `silent_for` lasts no event goes out, and each tick only lets the timers fall.
 -- Assumes nothing.
 use Prim.Native.Nat.{ℕ, suc, ◌-◌, ◌<◌, ◌≤◌}
+use Rattle.std.specs.Prelude.{None, Option, Some}
 use Rattle.timers.specs.Decision.{decided}
 use Rattle.timers.specs.Quiet.{forever, held_for, rested, rested_report, silent_for}
 use Rattle.timers.specs.Timers.{due, fallen, fallen_report}
 use Rattle.timers.specs.declared.Decision.TheVariants.{Reported, Silent, Triggered}
-use Rattle.timers.specs.declared.Report.TheVariants.{Left, Stopped}
-use Rattle.timers.specs.declared.Report.{Report}
 use Rattle.timers.specs.declared.Rules.{Rules}
 use Rattle.timers.specs.declared.Timers.{Timers}
 use borrow.Author.Tests.{ne_eqb}
@@ -17,10 +16,10 @@ use native.Mathlib.Decide.{dec_le}
 use native.Mathlib.Omega.{arith}
 
 -- ---- the timers
-none_report : (t : Report) → rested_report t 0 ≡ t
+none_report : (t : Option ℕ) → rested_report t 0 ≡ t
 unfolding rested_report
-none_report Stopped = refl
-none_report (Left m) = ap Left (omega arith)
+none_report None = refl
+none_report (Some m) = ap Some (omega arith)
 
 pub rested_none : (t : Timers) → rested t 0 ≡ t
 unfolding rested
@@ -28,10 +27,10 @@ rested_none t =
     let dead : t.dead - 0 ≡ t.dead = omega arith in
     rw (none_report t.report, dead)
 
-next_report : (t : Report) (n : ℕ) → fallen_report (rested_report t n) ≡ rested_report t (suc n)
+next_report : (t : Option ℕ) (n : ℕ) → fallen_report (rested_report t n) ≡ rested_report t (suc n)
 unfolding fallen_report rested_report
-next_report Stopped n = refl
-next_report (Left m) n = ap Left (omega arith)
+next_report None n = refl
+next_report (Some m) n = ap Some (omega arith)
 
 pub rested_next : (t : Timers) (n : ℕ) → fallen (rested t n) ≡ rested t (suc n)
 unfolding fallen rested
@@ -45,11 +44,11 @@ either true = refl
 either false = refl
 
 -- with no cause of the sensor's own, the later of the two timers holds the report back
-holds : (dead : ℕ) (t : Report) (n : ℕ) → n < held_for t dead
+holds : (dead : ℕ) (t : Option ℕ) (n : ℕ) → n < held_for t dead
     → cond (eqb (dead - suc n) 0) (cond (due (rested_report t (suc n)) && true) Reported Silent) Silent ≡ Silent
 unfolding held_for rested_report due
-holds dead Stopped n h = either (eqb (dead - suc n) 0)
-holds dead (Left m) n h = go (dec_le dead (suc n))
+holds dead None n h = either (eqb (dead - suc n) 0)
+holds dead (Some m) n h = go (dec_le dead (suc n))
   where
     go : Dec (dead ≤ suc n) → cond (eqb (dead - suc n) 0) (cond (eqb (m - suc n) 0 && true) Reported Silent) Silent ≡ Silent
     go (yes p) =

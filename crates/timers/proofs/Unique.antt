@@ -6,16 +6,12 @@ use Rattle.timers.proofs.Decision.decided.Kinds as Decision-decided-kinds
 use Rattle.timers.proofs.Decision.decided.Reads as Decision-decided
 use Rattle.timers.proofs.Decision.silent_for.Kinds as Decision-silent-for-kinds
 use Rattle.timers.proofs.Decision.silent_for.Reads as Decision-silent-for
-use Rattle.timers.proofs.Report.due.Kinds as Report-due-kinds
-use Rattle.timers.proofs.Report.due.Reads as Report-due
-use Rattle.timers.proofs.Report.fallen.Kinds as Report-fallen-kinds
-use Rattle.timers.proofs.Report.fallen.Reads as Report-fallen
-use Rattle.timers.proofs.Report.started.Kinds as Report-started-kinds
-use Rattle.timers.proofs.Report.started.Reads as Report-started
 use Rattle.timers.proofs.Rules.dead_time.Kinds as Rules-dead-time-kinds
 use Rattle.timers.proofs.Rules.dead_time.Reads as Rules-dead-time
 use Rattle.timers.proofs.Rules.report_time.Kinds as Rules-report-time-kinds
 use Rattle.timers.proofs.Rules.report_time.Reads as Rules-report-time
+use Rattle.timers.proofs.Rules.started_report.Kinds as Rules-started-report-kinds
+use Rattle.timers.proofs.Rules.started_report.Reads as Rules-started-report
 use Rattle.timers.proofs.Timers.after.Kinds as Timers-after-kinds
 use Rattle.timers.proofs.Timers.after.Reads as Timers-after
 use Rattle.timers.proofs.Timers.fallen.Kinds as Timers-fallen-kinds
@@ -32,14 +28,8 @@ Rules-dead_time_unique κs a x y s t p q = p ∙ sym q
 pub Rules-report_time_unique : Unique 0 Rules-report-time-kinds.ps Rules-report-time-kinds.r Rules-report-time.Post
 Rules-report_time_unique κs a x y s t p q = p ∙ sym q
 
-pub Report-fallen_unique : Unique 0 Report-fallen-kinds.ps Report-fallen-kinds.r Report-fallen.Post
-Report-fallen_unique κs a x y s t p q = p ∙ sym q
-
-pub Report-due_unique : Unique 0 Report-due-kinds.ps Report-due-kinds.r Report-due.Post
-Report-due_unique κs a x y s t p q = p ∙ sym q
-
-pub Report-started_unique : Unique 0 Report-started-kinds.ps Report-started-kinds.r Report-started.Post
-Report-started_unique κs a x y s t p q = p ∙ sym q
+pub Rules-started_report_unique : Unique 0 Rules-started-report-kinds.ps Rules-started-report-kinds.r Rules-started-report.Post
+Rules-started_report_unique κs a x y s t p q = p ∙ sym q
 
 pub Timers-fallen_unique : Unique 0 Timers-fallen-kinds.ps Timers-fallen-kinds.r Timers-fallen.Post
 Timers-fallen_unique κs a x y s t p q = p ∙ sym q

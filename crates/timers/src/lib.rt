@@ -1,27 +1,18 @@
 // Two timers and one decision, the same for every kind of sensor (document 01, "Frames" and "One tick").
-// Nothing here knows what a sensor measures: a kind says whether it has a cause of its own, and the rest is decided here.
+// Nothing here knows what a sensor measures: a kind says whether it has a cause of its own, and the rest is decided
+// here.
 #![tactic(auto)]
 
-ghost use Rattle.std.specs.Prelude.{◌*◌, ◌-◌, max, ◌≡◌};
+ghost use Rattle.std.specs.Prelude.{◌≡◌};
 ghost use Rattle.timers.specs.Decision.{after, decided};
-ghost use Rattle.timers.specs.Quiet.{held_for, rested, rested_report, silent_for};
-ghost use Rattle.timers.specs.Timers.{dead_time, due, fallen, fallen_report, report_time, started, started_report};
+ghost use Rattle.timers.specs.Quiet.{held_for, rested, silent_for};
+ghost use Rattle.timers.specs.Timers.{dead_time, fallen, report_time, started, started_report};
 
-// More ticks than a session can count.
-const FOREVER: u32 = 4294967295;
-
-// The report timer. Left(0) is due, and stays due.
-#[derive(Clone, Copy)]
-pub enum Report {
-    Stopped,
-    Left(u16),
-}
-
-// Dead time 0 is not running.
+// dead: dead time, which at 0 is not running. report: the report timer where it runs, which at 0 is due, and stays due.
 #[derive(Clone, Copy)]
 pub struct Timers {
     pub dead: u16,
-    pub report: Report,
+    pub report: Option<u16>,
 }
 
 // Ticks that one step of each multiplier stands for.
@@ -51,184 +42,125 @@ pub enum Decision {
 
 impl Rules {
     // D of demand 3, in ticks.
+    #[tactic(auto, unfolding(crate::specs::Timers::dead_time))]
     pub fn dead_time(self) -> u16
         ensures { result ≡ dead_time self }
     {
-        let units = self.units;
-        times(self.deadtime, units.dead)
+        self.deadtime as u16 * self.units.dead as u16
     }
 
     // R of demand 3: the report time, never below dead time.
+    #[tactic(auto, unfolding(crate::specs::Timers::report_time))]
     pub fn report_time(self) -> u16
         ensures { result ≡ report_time self }
     {
-        let units = self.units;
-        larger(self.dead_time(), times(self.report, units.report))
-    }
-}
-
-impl Report {
-    pub fn fallen(self) -> Report
-        ensures { result ≡ fallen_report self }
-    {
-        match self {
-            Report::Stopped => Report::Stopped,
-            Report::Left(n) => Report::Left(less(n)),
-        }
+        self.dead_time()
+            .max(self.report as u16 * self.units.report as u16)
     }
 
-    pub fn due(self) -> bool
-        ensures { result ≡ due self }
+    // The report timer as an event starts it. Multiplier 0 is no report: it stands.
+    #[tactic(auto, unfolding(crate::specs::Timers::started_report))]
+    pub fn started_report(self) -> Option<u16>
+        ensures { result ≡ started_report self }
     {
-        match self {
-            Report::Stopped => false,
-            Report::Left(n) => n == 0,
-        }
-    }
-
-    // Multiplier 0 is no report: the timer stands.
-    pub fn started(rules: Rules) -> Report
-        ensures { result ≡ started_report rules }
-    {
-        if rules.report == 0 {
-            Report::Stopped
+        if self.report == 0 {
+            None
         } else {
-            Report::Left(rules.report_time())
-        }
-    }
-
-    // After n ticks with no event.
-    fn rested(self, n: u32) -> Report
-        ensures { result ≡ rested_report self n }
-    {
-        match self {
-            Report::Stopped => Report::Stopped,
-            Report::Left(m) => Report::Left(less_by(m, n)),
-        }
-    }
-
-    // For how many ticks it and dead time hold a report back.
-    fn held_for(self, dead: u16) -> u32
-        ensures { result ≡ held_for self dead }
-    {
-        match self {
-            Report::Stopped => FOREVER,
-            Report::Left(m) => less(larger(m, dead)) as u32,
+            Some(self.report_time())
         }
     }
 }
 
 impl Timers {
     // Every running timer falls by 1.
+    #[tactic(auto, unfolding(crate::specs::Timers::fallen, crate::specs::Timers::fallen_report, crate::specs::Quiet::rested, crate::specs::Quiet::rested_report))]
     pub fn fallen(self) -> Timers
         ensures { result ≡ fallen self }
     {
-        let report = self.report;
-        Timers {
-            dead: less(self.dead),
-            report: report.fallen(),
-        }
+        self.rested(1)
     }
 
     // As an event starts them.
+    #[tactic(auto, unfolding(crate::specs::Timers::started))]
     pub fn started(rules: Rules) -> Timers
         ensures { result ≡ started rules }
     {
         Timers {
             dead: rules.dead_time(),
-            report: Report::started(rules),
+            report: rules.started_report(),
         }
     }
 
     // At the end of a tick: started if an event goes out, else as they fell.
+    #[tactic(auto, unfolding(crate::specs::Decision::after))]
     pub fn after(self, decision: Decision, rules: Rules) -> Timers
         ensures { result ≡ after decision rules self }
     {
         match decision {
             Decision::Silent => self,
-            Decision::Triggered => Timers::started(rules),
-            Decision::Reported => Timers::started(rules),
+            Decision::Triggered | Decision::Reported => Timers::started(rules),
         }
     }
 
     // After n ticks with no event.
+    #[tactic(auto, unfolding(crate::specs::Quiet::rested, crate::specs::Quiet::rested_report))]
     pub fn rested(self, n: u32) -> Timers
         ensures { result ≡ rested self n }
     {
-        let report = self.report;
+        let rested = |left: u16| (left as u32).saturating_sub(n) as u16;
         Timers {
-            dead: less_by(self.dead, n),
-            report: report.rested(n),
+            dead: rested(self.dead),
+            report: self.report.map(rested),
+        }
+    }
+
+    // For how many ticks they hold a report back. u32::MAX is more ticks than a session can count.
+    #[tactic(auto, unfolding(crate::specs::Quiet::held_for))]
+    fn held_for(self) -> u32
+        ensures { result ≡ held_for self.report self.dead }
+    {
+        match self.report {
+            Some(left) => left.max(self.dead).saturating_sub(1) as u32,
+            None => u32::MAX,
         }
     }
 }
 
 impl Decision {
     // The decision of a tick, on timers that have fallen.
+    #[tactic(auto, unfolding(crate::specs::Decision::decided, crate::specs::Timers::due))]
     pub fn decided(rules: Rules, valid: bool, timers: Timers, cause: bool) -> Decision
         ensures { result ≡ decided rules valid timers cause }
     {
-        let report = timers.report;
-        let reports = report.due() & rules.repeat;
         if rules.enabled & valid & (timers.dead == 0) {
             if cause {
                 Decision::Triggered
+            } else if rules.repeat & (timers.report == Some(0)) {
+                Decision::Reported
             } else {
-                if reports {
-                    Decision::Reported
-                } else {
-                    Decision::Silent
-                }
+                Decision::Silent
             }
         } else {
             Decision::Silent
         }
     }
 
-    // For how many ticks no event goes out, if nothing but the timers changes: dead time alone holds a cause of the sensor's own back.
+    // For how many ticks no event goes out, if nothing but the timers changes: dead time alone holds a cause of the
+    // sensor's own back.
+    #[tactic(auto, unfolding(crate::specs::Quiet::silent_for))]
     pub fn silent_for(rules: Rules, valid: bool, timers: Timers, cause: bool) -> u32
         ensures { result ≡ silent_for rules valid timers cause }
     {
-        let report = timers.report;
         if rules.enabled & valid {
             if cause {
-                less(timers.dead) as u32
+                timers.dead.saturating_sub(1) as u32
+            } else if rules.repeat {
+                timers.held_for()
             } else {
-                if rules.repeat {
-                    report.held_for(timers.dead)
-                } else {
-                    FOREVER
-                }
+                u32::MAX
             }
         } else {
-            FOREVER
+            u32::MAX
         }
     }
-}
-
-// One less, but not below 0.
-fn less(n: u16) -> u16
-    ensures { result ≡ n - 1 }
-{
-    if n == 0 { 0 } else { n - 1 }
-}
-
-// Less by k, but not below 0.
-fn less_by(n: u16, k: u32) -> u16
-    ensures { result ≡ n - k }
-{
-    let wide = n as u32;
-    if k < wide { (wide - k) as u16 } else { 0 }
-}
-
-fn larger(a: u16, b: u16) -> u16
-    ensures { result ≡ max a b }
-{
-    if a < b { b } else { a }
-}
-
-fn times(multiplier: u8, unit: u8) -> u16
-    ensures { result ≡ multiplier * unit }
-{
-    (multiplier as u16) * (unit as u16)
 }

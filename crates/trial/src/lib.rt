@@ -15,7 +15,10 @@ use session::Reading;
 pub fn trial_session(tick: u32, before: &[u8], input: &[u8], log: &mut [u8]) -> Reading
     ensures { (result ≡ for_c (session (first tick before.now (length log.old)).model input.now (length log.old))) × (log.new ≡ put 0 (bytes_of (session (first tick before.now (length log.old)).model input.now (length log.old)).log) (put 0 (bytes_of (first tick before.now (length log.old)).log) log.old)) }
 {
-    let fresh = device::fresh();
-    let left = session::read(Model { tick, ..fresh }, before, log);
+    let later = Model {
+        tick,
+        ..device::fresh()
+    };
+    let left = session::read(later, before, log);
     session::read_for_c(left.model, input, log)
 }

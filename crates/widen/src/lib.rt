@@ -5,41 +5,24 @@
 ghost use Rattle.std.specs.Prelude.{◌%◌, ◌/◌, ◌^◌, max, min, ◌≡◌};
 ghost use Rattle.widen.specs.Width.{information, input_bytes, input_value, mask, widened};
 
-// A width that a u32 holds.
-fn capped(wide: u8) -> u8
-    ensures { result ≡ min wide 32 }
-{
-    if wide < 32 { wide } else { 32 }
-}
-
-// The bits of a copy: at least one, so that copies reach any width.
-fn positive(resolution: u8) -> u8
-    ensures { result ≡ max 1 resolution }
-{
-    if resolution == 0 { 1 } else { resolution }
-}
-
 // `count` bits of a number, the lowest of them at `place`, counted from the bottom.
 fn bits(x: u64, place: u8, count: u8) -> u64
     ensures { result ≡ x / 2 ^ place % 2 ^ count }
 {
-    if 63 < place {
-        return 0;
-    }
-    let above = x >> place;
-    if count < 64 {
-        above % (1u64 << count)
-    } else {
-        above
+    let above = x.checked_shr(place as u32).unwrap_or(0);
+    match 1u64.checked_shl(count as u32) {
+        Some(end) => above % end,
+        None => above,
     }
 }
 
 // The value filled out from the top: whole copies, doubled until they reach, and cut off at the low end.
+// A copy has at least one bit, so that copies reach any width.
 pub fn widened(value: u32, resolution: u8, wide: u8) -> u32
     ensures { result ≡ widened value resolution (min wide 32) }
 {
-    let n = capped(wide);
-    let size = positive(resolution);
+    let n = wide.min(32);
+    let size = resolution.max(1);
     let mut out = bits(value as u64, 0, size);
     let mut have = size;
     while have < n {
@@ -54,14 +37,7 @@ pub fn widened(value: u32, resolution: u8, wide: u8) -> u32
 pub fn input_bytes(resolution: u8) -> u8
     ensures { result ≡ input_bytes resolution }
 {
-    if resolution == 0 {
-        return 1;
-    }
-    if resolution < 25 {
-        (resolution + 7) / 8
-    } else {
-        4
-    }
+    resolution.div_ceil(8).clamp(1, 4)
 }
 
 // inputValue: the value as queries show it.

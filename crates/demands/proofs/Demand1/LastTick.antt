@@ -13,7 +13,7 @@ use Rattle.device.specs.declared.model.Model.{Model}
 use Rattle.judging.proofs.Asking.{last_left, ticks_of}
 use Rattle.judging.specs.Asked.{asked, size_of}
 use Rattle.judging.specs.Refusals.{number_of}
-use Rattle.judging.specs.declared.asked.Asked.TheVariants.{Declare, Frame, Hold, Refused, Ticks}
+use Rattle.judging.specs.declared.asked.Asked.TheVariants.{Declare, Frame, Hold, Ticks}
 use Rattle.judging.specs.declared.asked.Asked.{Asked}
 use Rattle.judging.specs.declared.asked.Refusal.TheVariants.{BadSample, BeyondTable, Cut, Full, LateOrSkipped, NoSuchSensor, NoTicks, NotReadyAgain, TimeOver, Undeclared, UnknownMark}
 use Rattle.judging.specs.declared.asked.Refusal.{Refusal}
@@ -21,6 +21,7 @@ use Rattle.record.specs.Log.{AllBytes, Logged, UpTo}
 use Rattle.session.proofs.Kept.{Kept, part_left, refused_kept}
 use Rattle.session.proofs.Records.{ended}
 use Rattle.session.specs.Session.{End, refused, session, step, taken}
+use Rattle.std.specs.Prelude.{Err, Ok, Result}
 use Rattle.ticks.proofs.Laws.{tick_tick}
 use Rattle.ticks.specs.Tick.{tick_model}
 use lib.ListN.{drop, replicate}
@@ -40,13 +41,13 @@ unfolding model_after
 ticks_rise zero m = sym (add-zero m.tick)
 ticks_rise (suc n) m = omega (arith, ticks_rise n (tick_model m), tick_tick m)
 
-asked_rise : (a : Asked) (m : Model) → (model_after m (asks_for a)).tick ≡ m.tick + ticks_of a
+asked_rise : (a : Result Asked Refusal) (m : Model) → (model_after m (asks_for a)).tick ≡ m.tick + ticks_of a
 unfolding model_after
-asked_rise (Refused why) m = sym (add-zero m.tick)
-asked_rise (Declare sensor) m = happen_tick m (declare sensor)
-asked_rise (Hold i sample) m = happen_tick m (hold i sample)
-asked_rise (Frame first second third) m = happen_tick m (frame first second third)
-asked_rise (Ticks n) m = ticks_rise n m
+asked_rise (Err why) m = sym (add-zero m.tick)
+asked_rise (Ok (Declare sensor)) m = happen_tick m (declare sensor)
+asked_rise (Ok (Hold i sample)) m = happen_tick m (hold i sample)
+asked_rise (Ok (Frame first second third)) m = happen_tick m (frame first second third)
+asked_rise (Ok (Ticks n)) m = ticks_rise n m
 
 -- and that is not beyond the last
 asked_within : (xs : List ℕ) (m : Model) → m.tick ≤ m.last → m.tick + ticks_of (asked xs m) ≤ m.last

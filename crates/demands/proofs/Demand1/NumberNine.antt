@@ -13,6 +13,7 @@ use Rattle.judging.specs.declared.asked.Refusal.{Refusal}
 use Rattle.record.specs.Log.{Logged}
 use Rattle.session.proofs.Kept.{partly, taken≢refused}
 use Rattle.session.specs.Session.{fits, refused, step, taken, ticking}
+use Rattle.std.specs.Prelude.{Ok}
 use Rattle.ticks.specs.Tick.{tick_log, tick_model}
 use mathlib.Core.Bool.{Bool, false, true}
 use mathlib.Core.List.{List, append_assoc, append-nil, ◌++◌}
@@ -22,7 +23,7 @@ use native.Mathlib.Omega.{arith}
 
 -- ---- one answer
 pub answer_full : (first second third room : ℕ) (m : Model) (log : List Logged) → NoRoom room log (frame_log m first second third)
-    → step (Frame first second third) room m log ≡ refused Full 0 m log
+    → step (Ok (Frame first second third)) room m log ≡ refused Full 0 m log
 unfolding step
 answer_full first second third room m log h = rw (unfit room log (frame_log m first second third) h, step)
 
@@ -63,13 +64,13 @@ fitted (suc t) done room m log m' log' e s below h =
 
 -- t of the n ticks fit, and the next does not
 pub tick_full : (n t room : ℕ) (m : Model) (log : List Logged) → t < n → Fitted t room m log → NoRoomAfter t room m log
-    → step (Ticks n) room m log ≡ refused Full t (ticked_model t m) (ticked_log t m log)
+    → step (Ok (Ticks n)) room m log ≡ refused Full t (ticked_model t m) (ticked_log t m log)
 unfolding step
 tick_full n t room m log l f h = ticks_full n t 0 room m log l f h ∙ ap (λ k. refused Full k (ticked_model t m) (ticked_log t m log)) (zero-add t)
 
 -- and so it is wherever a TK is refused
 pub full_tick : (n room : ℕ) (m : Model) (log : List Logged) {why : Refusal} {t : ℕ} {m' : Model} {log' : List Logged}
-    → step (Ticks n) room m log ≡ refused why t m' log'
+    → step (Ok (Ticks n)) room m log ≡ refused why t m' log'
     → (t < n) × Fitted t room m log × NoRoomAfter t room m log × (why ≡ Full) × (m' ≡ ticked_model t m) × (log' ≡ ticked_log t m log)
 unfolding step
 full_tick n room m log {why} {t} {m'} {log'} e =

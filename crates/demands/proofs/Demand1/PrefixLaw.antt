@@ -14,6 +14,7 @@ use Rattle.record.specs.Log.{Logged, bytes_of}
 use Rattle.session.proofs.Kept.{Kept, part_left, refused_kept, same_left}
 use Rattle.session.proofs.Records.{ended}
 use Rattle.session.specs.Session.{End, refused, session, step, taken}
+use Rattle.std.specs.Prelude.{Ok}
 use Rattle.stream.proofs.TimeRecord.{time_asked}
 use lib.ListN.{drop, length, length-append, take}
 use lib.Seq.{drop_at, length-take-le, take-add}
@@ -59,7 +60,7 @@ unfolding step size_of
 stands_left m xs room why zero m' log k = let (p, q) = same_left k in rw (p, q) (session_none m room)
 stands_left m xs room why (suc t) m' log k =
     let (fewer, e, full) = part_left k in
-    let a : asked (time_record (suc t)) m ≡ Ticks (suc t) = time_asked (suc t) [] m (omega arith) (omega (arith, time_left xs m)) (omega (arith, last_left xs m (omega arith))) in
+    let a : asked (time_record (suc t)) m ≡ Ok (Ticks (suc t)) = time_asked (suc t) [] m (omega arith) (omega (arith, time_left xs m)) (omega (arith, last_left xs m (omega arith))) in
     let s : step (asked (time_record (suc t)) m) room m [] ≡ taken m' log = ap (λ a. step a room m []) a ∙ e in
     session_taken m (time_record (suc t)) room (omega arith) s
     ∙ ap (λ a. behind (size_of a) log (session m' (drop (size_of a) (time_record (suc t))) (room - length (bytes_of log)))) a

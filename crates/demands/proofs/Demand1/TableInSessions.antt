@@ -10,13 +10,13 @@ use Rattle.demands.specs.Stands.{behind, room_after}
 use Rattle.device.specs.declared.model.Model.{Model}
 use Rattle.judging.specs.Asked.{asked}
 use Rattle.judging.specs.Refusals.{number_of}
-use Rattle.judging.specs.declared.asked.Asked.TheVariants.{Refused}
 use Rattle.judging.specs.declared.asked.Refusal.TheVariants.{Full}
 use Rattle.judging.specs.declared.asked.Refusal.{Refusal}
 use Rattle.record.proofs.Bytes.{all_dropped}
 use Rattle.record.specs.Log.{AllBytes}
 use Rattle.session.proofs.Kept.{refused_by}
 use Rattle.session.specs.Session.{End, refused, session, step}
+use Rattle.std.specs.Prelude.{Err}
 use lib.ListN.{drop, length}
 use mathlib.Core.List.{List, [], append-nil, ◌++◌}
 use mathlib.Core.Logic.{inl, inr, ◌≢◌, ◌⊎◌}
@@ -38,7 +38,7 @@ by_table m xs room bytes some other = go (left_off m xs room some)
     go : LeftOff m xs room r → (why : Refusal) × (r.number ≡ number_of why) × Given why rest r.model
     go l = by (refused_by (asked rest l.model) room l.model l.log l.why r.ticks r.model r.log l.refuses)
       where
-        by : ((asked rest l.model ≡ Refused l.why) × (r.model ≡ l.model)) ⊎ (l.why ≡ Full)
+        by : ((asked rest l.model ≡ Err l.why) × (r.model ≡ l.model)) ⊎ (l.why ≡ Full)
             → (why : Refusal) × (r.number ≡ number_of why) × Given why rest r.model
         by (inl (e, same)) =
             (l.why, l.numbered, subst (Given l.why rest) (sym same) (holds_given rest l.model (all_dropped r.offset xs bytes) l.why e))

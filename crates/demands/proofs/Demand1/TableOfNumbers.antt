@@ -9,16 +9,14 @@ use Rattle.device.specs.Device.{allowed, instance_at, known}
 use Rattle.device.specs.declared.model.Model.{Model}
 use Rattle.judging.proofs.Asking.{marked}
 use Rattle.judging.specs.Asked.{asked, asked_by, declare_asked, declared_in, frame_asked, sample_asked, sample_in, sensor_asked, ticks_asked}
-use Rattle.judging.specs.declared.asked.Asked.TheVariants.{Declare, Frame, Hold, Refused, Ticks}
+use Rattle.judging.specs.declared.asked.Asked.TheVariants.{Declare, Frame, Hold, Ticks}
 use Rattle.judging.specs.declared.asked.Asked.{Asked}
 use Rattle.judging.specs.declared.asked.Refusal.TheVariants.{BadSample, BeyondTable, Cut, Full, LateOrSkipped, NoSuchSensor, NoTicks, NotReadyAgain, TimeOver, Undeclared, UnknownMark}
 use Rattle.judging.specs.declared.asked.Refusal.{Refusal}
-use Rattle.judging.specs.declared.declaring.Declares.TheVariants.{Nothing, One}
-use Rattle.judging.specs.declared.declaring.Declares.{Declares}
 use Rattle.record.specs.Log.{AllBytes}
 use Rattle.record.specs.Marks.{mark_of, mark_size}
 use Rattle.record.specs.Numbers.{byte, word}
-use Rattle.record.specs.declared.marks.Mark.TheVariants.{Bus, Declaration, Measurement, Time, Unknown}
+use Rattle.record.specs.declared.marks.Mark.TheVariants.{Bus, Declaration, Measurement, Time}
 use Rattle.record.specs.declared.marks.Mark.{Mark}
 use Rattle.rgb.specs.Colour.{b_value, g_value, r_value}
 use Rattle.sensor.specs.Colour.{colour_allows}
@@ -30,7 +28,9 @@ use Rattle.sensor.specs.Tick.{goes_back}
 use Rattle.sensor.specs.declared.instance.Instance.{Instance}
 use Rattle.sensor.specs.declared.kind.Kind.TheVariants.{Colour, Light, Movement, Occupancy}
 use Rattle.sensor.specs.declared.kind.Kind.{Kind}
+use Rattle.sensor.specs.declared.sensors.Sensor.{Sensor}
 use Rattle.sensor.specs.declared.settings.Sample.{Sample}
+use Rattle.std.specs.Prelude.{Err, Ok, Result, None, Option, Some}
 use borrow.Author.Tests.{eq-eqb, eqb-false, eqb-true, le-ltb, lt-ltb, ltb-false, ltb-true, ne_eqb}
 use lib.Dec.{eqb, leb, ltb}
 use lib.ListN.{length}
@@ -113,14 +113,14 @@ back_tells x s = tells_and (tells_bool x.measured) (tells_eqb s.status 1)
 module _ (rest : List ℕ) (m : Model) where
   -- ---- a row that holds is given
   no_sensor : Declaring rest → NoSensor rest
-      → cond (ltb (byte rest 2) 16) (sensor_asked (declared_in rest)) (Refused NoSuchSensor) ≡ Refused NoSuchSensor
+      → cond (ltb (byte rest 2) 16) (sensor_asked (declared_in rest)) (Err NoSuchSensor) ≡ Err NoSuchSensor
   no_sensor k s = go (dec_lt (byte rest 2) 16)
     where
-      go : Dec (byte rest 2 < 16) → cond (ltb (byte rest 2) 16) (sensor_asked (declared_in rest)) (Refused NoSuchSensor) ≡ Refused NoSuchSensor
+      go : Dec (byte rest 2 < 16) → cond (ltb (byte rest 2) 16) (sensor_asked (declared_in rest)) (Err NoSuchSensor) ≡ Err NoSuchSensor
       go (yes h) = rw (lt-ltb (byte rest 2) 16 h) (ap sensor_asked (none_declared rest k h s))
       go (no h) = rw (le-ltb (byte rest 2) 16 (omega arith))
 
-  pub given : AllBytes rest → (why : Refusal) → Given why rest m → asked rest m ≡ Refused why
+  pub given : AllBytes rest → (why : Refusal) → Given why rest m → asked rest m ≡ Err why
   unfolding asked asked_by declare_asked sample_asked frame_asked ticks_asked
   given bytes UnknownMark (l, a, o, v, b, c, d) = marked rest m l ∙ rw (unknown_mark rest l (a, o, v, b, c, d))
   given bytes Cut (inl h) = rw (lt-ltb (length rest) 2 h)
@@ -162,12 +162,12 @@ module _ (rest : List ℕ) (m : Model) where
       )
 
   -- ---- what is given holds
-  abbrev Says : Asked → Type 0
-  Says (Refused why) = Given why rest m
-  Says (Declare sensor) = Unit {0}
-  Says (Hold i sample) = Unit {0}
-  Says (Frame first second third) = Unit {0}
-  Says (Ticks n) = Unit {0}
+  abbrev Says : Result Asked Refusal → Type 0
+  Says (Err why) = Given why rest m
+  Says (Ok (Declare sensor)) = Unit {0}
+  Says (Ok (Hold i sample)) = Unit {0}
+  Says (Ok (Frame first second third)) = Unit {0}
+  Says (Ok (Ticks n)) = Unit {0}
 
   declaring_says : Declaring rest → Says (declare_asked rest m)
   unfolding declare_asked
@@ -176,12 +176,12 @@ module _ (rest : List ℕ) (m : Model) where
       (ltb (byte rest 2) 16) refl (declared_in rest) refl
     where
       go : (a : Bool) → ltb (length rest) (mark_size Declaration) ≡ a → (b : Bool) → (m.running || not (eqb (byte rest 2) m.declared)) ≡ b
-          → (c : Bool) → ltb (byte rest 2) 16 ≡ c → (d : Declares) → declared_in rest ≡ d
-          → Says (cond a (Refused Cut) (cond b (Refused LateOrSkipped) (cond c (sensor_asked d) (Refused NoSuchSensor))))
+          → (c : Bool) → ltb (byte rest 2) 16 ≡ c → (d : Option Sensor) → declared_in rest ≡ d
+          → Says (cond a (Err Cut) (cond b (Err LateOrSkipped) (cond c (sensor_asked d) (Err NoSuchSensor))))
       go true e b f c g d h = inr (inl (k, ltb-true (length rest) (mark_size Declaration) e))
       go false e true f c g d h = (k, ltb-false (length rest) (mark_size Declaration) e, (late_tells rest m).yes f)
-      go false e false f true g Nothing h = (k, ltb-false (length rest) (mark_size Declaration) e, (late_tells rest m).no f, declared_none rest k h)
-      go false e false f true g (One sensor) h = tt
+      go false e false f true g None h = (k, ltb-false (length rest) (mark_size Declaration) e, (late_tells rest m).no f, declared_none rest k h)
+      go false e false f true g (Some sensor) h = tt
       go false e false f false g d h =
           (k, ltb-false (length rest) (mark_size Declaration) e, (late_tells rest m).no f, inl (ltb-false (byte rest 2) 16 g))
 
@@ -194,7 +194,7 @@ module _ (rest : List ℕ) (m : Model) where
       go : (a : Bool) → ltb (length rest) (mark_size Measurement) ≡ a → (b : Bool) → known m (byte rest 2) ≡ b → (c : Bool) → allowed m (byte rest 2) (sample_in rest) ≡ c
           → (d : Bool) → goes_back (instance_at m (byte rest 2)) (sample_in rest) ≡ d
           → Says
-          (cond a (Refused Cut) (cond b (cond c (cond d (Refused NotReadyAgain) (Hold (byte rest 2) (sample_in rest))) (Refused BadSample)) (Refused Undeclared)))
+          (cond a (Err Cut) (cond b (cond c (cond d (Err NotReadyAgain) (Ok (Hold (byte rest 2) (sample_in rest)))) (Err BadSample)) (Err Undeclared)))
       go true e b f c g d h = inr (inr (inl (k, ltb-true (length rest) (mark_size Measurement) e)))
       go false e false f c g d h = (k, ltb-false (length rest) (mark_size Measurement) e, (known_tells m (byte rest 2)).no f)
       go false e true f false g d h =
@@ -210,7 +210,7 @@ module _ (rest : List ℕ) (m : Model) where
   unfolding frame_asked
   fr_says k = go (ltb (length rest) (mark_size Bus)) refl
     where
-      go : (a : Bool) → ltb (length rest) (mark_size Bus) ≡ a → Says (cond a (Refused Cut) (Frame (byte rest 2) (byte rest 3) (byte rest 4)))
+      go : (a : Bool) → ltb (length rest) (mark_size Bus) ≡ a → Says (cond a (Err Cut) (Ok (Frame (byte rest 2) (byte rest 3) (byte rest 4))))
       go true e = inr (inr (inr (inl (k, ltb-true (length rest) (mark_size Bus) e))))
       go false e = tt
 
@@ -222,7 +222,7 @@ module _ (rest : List ℕ) (m : Model) where
     where
       go : (a : Bool) → ltb (length rest) (mark_size Time) ≡ a → (b : Bool) → eqb (word rest 2) 0 ≡ b → (c : Bool) → ltb (4294967295 - m.tick) (word rest 2) ≡ c
           → (d : Bool) → ltb m.last (m.tick + word rest 2) ≡ d
-          → Says (cond a (Refused Cut) (cond b (Refused NoTicks) (cond c (Refused TimeOver) (cond d (Refused BeyondTable) (Ticks (word rest 2))))))
+          → Says (cond a (Err Cut) (cond b (Err NoTicks) (cond c (Err TimeOver) (cond d (Err BeyondTable) (Ok (Ticks (word rest 2)))))))
       go true e b f c g d h = inr (inr (inr (inr (k, ltb-true (length rest) (mark_size Time) e))))
       go false e true f c g d h = (k, ltb-false (length rest) (mark_size Time) e, eqb-true (word rest 2) 0 f)
       go false e false f true g d h =
@@ -238,16 +238,16 @@ module _ (rest : List ℕ) (m : Model) where
   unfolding asked asked_by
   says bytes = go (ltb (length rest) 2) refl
     where
-      by : (k : Mark) → 2 ≤ length rest → MarkIs k rest → Says (asked_by k rest m)
-      by Unknown l (a, o, v, b, c, d) = (l, a, o, v, b, c, d)
-      by Declaration l k = declaring_says k
-      by Measurement l k = sa_says k
-      by Bus l k = fr_says k
-      by Time l k = tk_says k
+      by : (k : Option Mark) → 2 ≤ length rest → MarkIs k rest → Says (asked_by k rest m)
+      by None l (a, o, v, b, c, d) = (l, a, o, v, b, c, d)
+      by (Some Declaration) l k = declaring_says k
+      by (Some Measurement) l k = sa_says k
+      by (Some Bus) l k = fr_says k
+      by (Some Time) l k = tk_says k
 
-      go : (a : Bool) → ltb (length rest) 2 ≡ a → Says (cond a (Refused Cut) (asked_by (mark_of (word rest 0)) rest m))
+      go : (a : Bool) → ltb (length rest) 2 ≡ a → Says (cond a (Err Cut) (asked_by (mark_of (word rest 0)) rest m))
       go true e = inl (ltb-true (length rest) 2 e)
       go false e = let l = ltb-false (length rest) 2 e in by (mark_of (word rest 0)) l (mark_is rest l)
 
-  pub holds_given : AllBytes rest → (why : Refusal) → asked rest m ≡ Refused why → Given why rest m
+  pub holds_given : AllBytes rest → (why : Refusal) → asked rest m ≡ Err why → Given why rest m
   holds_given bytes why e = subst Says e (says bytes)

@@ -12,12 +12,14 @@ use Rattle.device.specs.Frame.{frame_log}
 use Rattle.device.specs.declared.model.Model.{Model}
 use Rattle.judging.proofs.Asking.{asked_size, cut}
 use Rattle.judging.specs.Asked.{asked, size_of}
-use Rattle.judging.specs.declared.asked.Asked.TheVariants.{Declare, Frame, Hold, Refused, Ticks}
+use Rattle.judging.specs.declared.asked.Asked.TheVariants.{Declare, Frame, Hold, Ticks}
 use Rattle.judging.specs.declared.asked.Asked.{Asked}
+use Rattle.judging.specs.declared.asked.Refusal.{Refusal}
 use Rattle.record.specs.Log.{AllBytes, Logged, bytes_of}
 use Rattle.session.proofs.Laws.{ticking_taken}
 use Rattle.session.proofs.Room.{both_fit, nothing_left}
 use Rattle.session.specs.Session.{End, session, step, taken, ticking}
+use Rattle.std.specs.Prelude.{Err, Ok, Result}
 use Rattle.ticks.specs.Tick.{tick_log, tick_model}
 use lib.ListN.{length, replicate, take}
 use lib.Seq.{drop_at, length-take-le}
@@ -35,14 +37,14 @@ ticks_fit (suc n) done room m log h =
     let (fit, more) = both_fit room log (tick_log m) (log_after (tick_model m) (replicate n tick)) h in
     ticking_taken n done room m log fit ∙ ticks_fit n (done + 1) room (tick_model m) (log ++ tick_log m) more ∙ rw append_assoc
 
-step_fits : (a : Asked) (room : ℕ) (m : Model) (log : List Logged) → 0 < size_of a → length (bytes_of (log_after m (asks_for a))) ≤ room - length (bytes_of log)
+step_fits : (a : Result Asked Refusal) (room : ℕ) (m : Model) (log : List Logged) → 0 < size_of a → length (bytes_of (log_after m (asks_for a))) ≤ room - length (bytes_of log)
     → step a room m log ≡ taken (model_after m (asks_for a)) (log ++ log_after m (asks_for a))
 unfolding step size_of model_after log_after
-step_fits (Refused why) room m log s h = absurd (omega arith)
-step_fits (Declare sensor) room m log s h = rw (append-nil log)
-step_fits (Hold i sample) room m log s h = rw (append-nil log)
-step_fits (Frame first second third) room m log s h = let (fit, more) = both_fit room log (frame_log m first second third) [] h in rw (fit, step, append-nil)
-step_fits (Ticks n) room m log s h = ticks_fit n 0 room m log h
+step_fits (Err why) room m log s h = absurd (omega arith)
+step_fits (Ok (Declare sensor)) room m log s h = rw (append-nil log)
+step_fits (Ok (Hold i sample)) room m log s h = rw (append-nil log)
+step_fits (Ok (Frame first second third)) room m log s h = let (fit, more) = both_fit room log (frame_log m first second third) [] h in rw (fit, step, append-nil)
+step_fits (Ok (Ticks n)) room m log s h = ticks_fit n 0 room m log h
 
 -- ---- read by itself, and behind a session that was taken whole
 abbrev done : Model → (size : ℕ) → List Happening → End

@@ -15,10 +15,10 @@ use Rattle.sensor.proofs.Reporting.{report_positive}
 use Rattle.sensor.specs.Fresh as sensors
 use Rattle.sensor.specs.Kind.{repeat, rules}
 use Rattle.sensor.specs.declared.sensors.Sensor.{Sensor}
+use Rattle.std.specs.Prelude.{Some}
 use Rattle.timers.proofs.FirstEvent.{Soon, first_sent}
 use Rattle.timers.specs.Pace.{sendings}
 use Rattle.timers.specs.Timers.{started_report}
-use Rattle.timers.specs.declared.Report.TheVariants.{Left}
 use borrow.Author.Tests.{ne_eqb}
 use lib.ListN.{length}
 use mathlib.Core.Bool.{true}
@@ -29,7 +29,7 @@ use native.Mathlib.Omega.{arith}
 -- of an instance whose report is due in k ticks, and whose dead time is over by then
 pub first_run : (i : ℕ) (m : Model) (k : ℕ) → Present i m → (instance_at m i).settings.enabled ≡ true
     → repeat (instance_at m i).kind (instance_at m i).settings ≡ true
-    → (instance_at m i).timers.report ≡ Left k → (instance_at m i).timers.dead ≤ k
+    → (instance_at m i).timers.report ≡ Some k → (instance_at m i).timers.dead ≤ k
     → (hs : List Happening) → Undisturbed i m hs → max k 1 ≤ ticks_in hs → Soon m.tick k (events_of i (log_after m hs))
 unfolding rules
 first_run i m k p on lets e d hs u h =
@@ -38,7 +38,7 @@ first_run i m k p on lets e d hs u h =
     (subst (λ t. Soon m.tick k (sendings (rules_of (instance_at m i)) t m.tick s.causes)) (sym timers)
     (first_sent (rules_of (instance_at m i)) on lets (instance_at m i).timers.dead k m.tick s.causes d (omega (arith, s.each_tick))))
   where
-    timers : (instance_at m i).timers ≡ record { dead = (instance_at m i).timers.dead; report = Left k }
+    timers : (instance_at m i).timers ≡ record { dead = (instance_at m i).timers.dead; report = Some k }
     timers = λ j. record { dead = (instance_at m i).timers.dead; report = e j }
 
 -- ---- of an instance just declared
@@ -62,7 +62,7 @@ module _ {m₀ : Model} {calls : List Call} {i : ℕ} {sensor : Sensor} (s : Sta
   new : Fresh (instance_at (device_after s.at) i)
   new = rw here (fresh sensor)
 
-  timed : (instance_at (device_after s.at) i).timers.report ≡ Left (R (instance_at (device_after s.at) i))
+  timed : (instance_at (device_after s.at) i).timers.report ≡ Some (R (instance_at (device_after s.at) i))
   unfolding started_report rules
   timed = new.report ∙ rw (ne_eqb (instance_at (device_after s.at) i).settings.report 0 (λ e. omega (arith, s.reports.set)))
 

@@ -10,9 +10,9 @@ use Rattle.demands.specs.Happenings.{Call, Happening, carried_out, declare, fram
 use Rattle.demands.specs.Window.{Cut, between, device_after, device_before, events, events_of, last, n}
 use Rattle.device.specs.declared.model.Model.{Model}
 use Rattle.sensor.specs.Tick.{ticked}
+use Rattle.sensor.specs.declared.instance.Event.{Event}
 use Rattle.sensor.specs.declared.instance.Instance.{Instance}
-use Rattle.sensor.specs.declared.instance.Sent.TheVariants.{Event, Nothing}
-use Rattle.sensor.specs.declared.instance.Sent.{Sent}
+use Rattle.std.specs.Prelude.{None, Option, Some}
 use Rattle.ticks.specs.Tick.{sent_log, sweep_log, tick_log}
 use Rattle.timers.specs.Pace.{noted}
 use borrow.Author.Tests.{le-leb, le-ltb, lt-leb, lt-ltb}
@@ -63,10 +63,10 @@ noted_within : (now : ℕ) (b : Bool) → Within now (now + 1) (noted b (now + 1
 noted_within now true = more {t = now + 1} (omega arith) (omega arith) none
 noted_within now false = none
 
-sent_within : (now i j : ℕ) (s : Sent) → Within now (now + 1) (events_of i (sent_log (now + 1) j s))
+sent_within : (now i j : ℕ) (s : Option Event) → Within now (now + 1) (events_of i (sent_log (now + 1) j s))
 unfolding events_of sent_log
-sent_within now i j Nothing = none
-sent_within now i j (Event p v) = rw append-nil (noted_within now (eqb j i))
+sent_within now i j None = none
+sent_within now i j (Some e) = rw append-nil (noted_within now (eqb j i))
 
 sweep_within : (now i j : ℕ) (xs : List Instance) → Within now (now + 1) (events_of i (sweep_log (now + 1) j xs))
 unfolding sweep_log events_of

@@ -4,10 +4,10 @@ use Prim.Native.Nat.{ℕ, ◌<◌, ◌≤◌}
 use Rattle.demands.specs.Numbers.{Declaring, Names, NoSensor}
 use Rattle.judging.specs.Asked.{declared_in}
 use Rattle.judging.specs.Declaring.{declared_by, im_declares, in_declares, light_has, lo_declares}
-use Rattle.judging.specs.declared.declaring.Declares.TheVariants.{Nothing, One}
 use Rattle.record.specs.Numbers.{byte}
 use Rattle.sensor.specs.declared.sensors.Sensor.TheVariants.{Colour, Light, LightOf2017, Movement, Occupancy}
 use Rattle.sensor.specs.declared.sensors.Sensor.{Sensor}
+use Rattle.std.specs.Prelude.{None, Some}
 use borrow.Author.Tests.{le-leb, lt-leb, ne_eqb}
 use mathlib.Core.Bool.{false}
 use mathlib.Core.List.{List}
@@ -16,12 +16,12 @@ use mathlib.Core.Path.{refl, sym, ◌∙◌, ◌≡◌}
 use native.Mathlib.Decide.{dec_le, ℕ_discrete}
 use native.Mathlib.Omega.{arith}
 
-one≢nothing : {sensor : Sensor} → One sensor ≡ Nothing → ⊥
-one≢nothing e = let z : ◌≡◌ {A = ℕ} 0 1 = cc in omega arith
+some≢none : {sensor : Sensor} → Some sensor ≡ None → ⊥
+some≢none e = let z : ◌≡◌ {A = ℕ} 0 1 = cc in omega arith
 
 module _ (rest : List ℕ) where
   -- what it names, it declares
-  pub named : (sensor : Sensor) → Names rest sensor → declared_in rest ≡ One sensor
+  pub named : (sensor : Sensor) → Names rest sensor → declared_in rest ≡ Some sensor
   unfolding declared_by im_declares in_declares lo_declares light_has
   named Occupancy ((l, e), t, r) = rw (e, t, r)
   named (Light n) ((l, e), t, r, low, high) = rw (e, t, r, le-leb 1 n low, le-leb n 24 high)
@@ -37,7 +37,7 @@ module _ (rest : List ℕ) where
   named_by Colour names = inl names.0
 
   -- where there is no such sensor, and its number is below 16, it declares nothing
-  pub none_declared : Declaring rest → byte rest 2 < 16 → NoSensor rest → declared_in rest ≡ Nothing
+  pub none_declared : Declaring rest → byte rest 2 < 16 → NoSensor rest → declared_in rest ≡ None
   unfolding declared_by im_declares in_declares lo_declares light_has
   none_declared k h (inl a) = absurd (omega arith)
   none_declared k h (inr (inl ((l, e), a, b, c))) = rw (e, ne_eqb (byte rest 3) 3 a, ne_eqb (byte rest 3) 4 b, ne_eqb (byte rest 3) 5 c)
@@ -55,7 +55,7 @@ module _ (rest : List ℕ) where
       no_bits (inl low) = rw (lt-leb 1 (byte rest 4) low)
       no_bits (inr high) = rw (le-leb 1 (byte rest 4) (omega arith), lt-leb (byte rest 4) 24 high)
 
-      go : Declaring rest → light_has (byte rest 4) ≡ false → declared_in rest ≡ Nothing
+      go : Declaring rest → light_has (byte rest 4) ≡ false → declared_in rest ≡ None
       go (inl (l, e)) none = rw (e, t, none)
       go (inr (inl (l, e))) none = rw (e, t, none)
       go (inr (inr (l, e))) none = rw (e, t)
@@ -91,9 +91,9 @@ module _ (rest : List ℕ) where
       go (inr (inl k)) a (yes b) f c (yes d) (no e) g = inr (no_bits b (inr (omega arith)))
 
   -- so where it declares nothing, there is none
-  pub declared_none : Declaring rest → declared_in rest ≡ Nothing → NoSensor rest
+  pub declared_none : Declaring rest → declared_in rest ≡ None → NoSensor rest
   declared_none k e = go (either k)
     where
       go : Either → NoSensor rest
-      go (inl (sensor, names)) = absurd (one≢nothing (sym (named sensor names) ∙ e))
+      go (inl (sensor, names)) = absurd (some≢none (sym (named sensor names) ∙ e))
       go (inr none) = none

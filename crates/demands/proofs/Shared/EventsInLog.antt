@@ -1,8 +1,6 @@
 -- The events of an instance in a log: a frame logs none, and a tick the one that the instance itself sent.
 -- Assumes nothing.
 use Prim.Native.Nat.{ℕ, zero, suc, ◌+◌, ◌<◌, ◌≤◌}
-use Rattle.command.specs.declared.answering.Answer.TheVariants.{Byte, None}
-use Rattle.command.specs.declared.answering.Answer.{Answer}
 use Rattle.demands.specs.Alone.{Present}
 use Rattle.demands.specs.Window.{events_of}
 use Rattle.device.specs.Device.{instance_at}
@@ -11,9 +9,9 @@ use Rattle.device.specs.declared.model.Model.{Model}
 use Rattle.record.specs.Log.{AN, EV, Logged}
 use Rattle.sensor.specs.Fresh as sensors
 use Rattle.sensor.specs.Tick.{is_event, ticked}
+use Rattle.sensor.specs.declared.instance.Event.{Event}
 use Rattle.sensor.specs.declared.instance.Instance.{Instance}
-use Rattle.sensor.specs.declared.instance.Sent.TheVariants.{Event, Nothing}
-use Rattle.sensor.specs.declared.instance.Sent.{Sent}
+use Rattle.std.specs.Prelude.{None, Option, Some}
 use Rattle.ticks.specs.Tick.{sent_log, sweep_log, tick_log}
 use Rattle.timers.specs.Pace.{noted}
 use borrow.Author.Tests.{eq-eqb, ne_eqb}
@@ -36,10 +34,10 @@ events_append i (EV t j p v ∷ a) b =
     ∙ sym (append_assoc (noted (eqb j i) t) (events_of i a) (events_of i b))
 events_append i (AN t j v ∷ a) b = events_append i a b
 
-events_answer : (i t j : ℕ) (a : Answer) → events_of i (answer_log t j a) ≡ []
+events_answer : (i t j : ℕ) (a : Option ℕ) → events_of i (answer_log t j a) ≡ []
 unfolding events_of answer_log
 events_answer i t j None = refl
-events_answer i t j (Byte b) = refl
+events_answer i t j (Some b) = refl
 
 -- a frame logs no event
 pub events_frame : (i : ℕ) (m : Model) (a b c : ℕ) → events_of i (frame_log m a b c) ≡ []
@@ -52,15 +50,15 @@ events_frame i m a b c = go (loads a b) (counts m a b)
     go false false = refl
 
 -- at a tick instance i notes its own event, and the others none for it
-own : (t i : ℕ) (s : Sent) → events_of i (sent_log t i s) ≡ noted (is_event s) t
+own : (t i : ℕ) (s : Option Event) → events_of i (sent_log t i s) ≡ noted (is_event s) t
 unfolding events_of sent_log
-own t i Nothing = refl
-own t i (Event p v) = rw (eq-eqb i i refl)
+own t i None = refl
+own t i (Some e) = rw (eq-eqb i i refl)
 
-foreign : (t i j : ℕ) (s : Sent) → j ≢ i → events_of i (sent_log t j s) ≡ []
+foreign : (t i j : ℕ) (s : Option Event) → j ≢ i → events_of i (sent_log t j s) ≡ []
 unfolding events_of sent_log
-foreign t i j Nothing n = refl
-foreign t i j (Event p v) n = rw (ne_eqb j i n)
+foreign t i j None n = refl
+foreign t i j (Some e) n = rw (ne_eqb j i n)
 
 sweep_below : (t i j : ℕ) (xs : List Instance) → i < j → events_of i (sweep_log t j xs) ≡ []
 unfolding sweep_log events_of

@@ -1,8 +1,6 @@
 -- M-106: the ticks in the log of a run, and of a session. They never fall, every event is later than the start, and those of one instance rise.
 -- Assumes nothing.
 use Prim.Native.Nat.{ℕ, suc, ◌+◌, ◌<◌, ◌≤◌, max}
-use Rattle.command.specs.declared.answering.Answer.TheVariants.{Byte, None}
-use Rattle.command.specs.declared.answering.Answer.{Answer}
 use Rattle.demands.proofs.Shared.EventsInLog.{event_present, events_append, events_frame, events_tick}
 use Rattle.demands.proofs.Shared.OneInstance.{happen_length, happen_tick}
 use Rattle.demands.proofs.Shared.Runs.{session_log, session_model}
@@ -15,10 +13,10 @@ use Rattle.device.specs.Frame.{answer_log, counts, frame_log, loads, numbered_lo
 use Rattle.device.specs.declared.model.Model.{Model}
 use Rattle.record.specs.Log.{AN, EV, EventAbove, Every, Logged, Rises, UpTo, logged_instance, logged_tick}
 use Rattle.sensor.specs.Tick.{is_event, ticked}
+use Rattle.sensor.specs.declared.instance.Event.{Event}
 use Rattle.sensor.specs.declared.instance.Instance.{Instance}
-use Rattle.sensor.specs.declared.instance.Sent.TheVariants.{Event, Nothing}
-use Rattle.sensor.specs.declared.instance.Sent.{Sent}
 use Rattle.session.specs.Session.{session}
+use Rattle.std.specs.Prelude.{None, Option, Some}
 use Rattle.ticks.specs.Tick.{sent_log, sweep_log, tick_log}
 use Rattle.timers.specs.Pace.{noted}
 use lib.ListN.{length, length-take, take}
@@ -64,10 +62,10 @@ most m = max 16 (length m.instances)
 
 -- ---- FR: an answer at the tick that is
 module _ (m : Model) where
-  answer_lies : (i : ℕ) (a : Answer) → i < 16 → Rises m.tick (answer_log m.tick i a) × Every (Lies m.tick m.tick (most m)) (answer_log m.tick i a)
+  answer_lies : (i : ℕ) (a : Option ℕ) → i < 16 → Rises m.tick (answer_log m.tick i a) × Every (Lies m.tick m.tick (most m)) (answer_log m.tick i a)
   unfolding answer_log
   answer_lies i None h = (tt, tt)
-  answer_lies i (Byte b) h = ((omega arith, tt), (record { above = tt; up_to = omega arith; below = omega arith }, tt))
+  answer_lies i (Some b) h = ((omega arith, tt), (record { above = tt; up_to = omega arith; below = omega arith }, tt))
 
   frame_lies : (first second third : ℕ)
       → Rises m.tick (frame_log m first second third) × Every (Lies m.tick m.tick (most m)) (frame_log m first second third)
@@ -86,14 +84,14 @@ unfolding sweep_log sent_log
 sweep_rises t j [] h = tt
 sweep_rises t j (x ∷ xs) {last} h = go (ticked x).sent (sweep_rises t (suc j) xs h) (sweep_rises t (suc j) xs {last = t} (omega arith))
   where
-    go : (s : Sent) → Rises last (sweep_log t (suc j) xs) → Rises t (sweep_log t (suc j) xs) → Rises last (sent_log t j s ++ sweep_log t (suc j) xs)
-    go Nothing p q = p
-    go (Event a b) p q = (h, q)
+    go : (s : Option Event) → Rises last (sweep_log t (suc j) xs) → Rises t (sweep_log t (suc j) xs) → Rises last (sent_log t j s ++ sweep_log t (suc j) xs)
+    go None p q = p
+    go (Some e) p q = (h, q)
 
-sent_lies : (now j most : ℕ) (s : Sent) → j < most → Every (Lies now (now + 1) most) (sent_log (now + 1) j s)
+sent_lies : (now j most : ℕ) (s : Option Event) → j < most → Every (Lies now (now + 1) most) (sent_log (now + 1) j s)
 unfolding sent_log
-sent_lies now j most Nothing h = tt
-sent_lies now j most (Event a b) h = (record { above = omega arith; up_to = omega arith; below = h }, tt)
+sent_lies now j most None h = tt
+sent_lies now j most (Some e) h = (record { above = omega arith; up_to = omega arith; below = h }, tt)
 
 sweep_lies : (now j most : ℕ) (xs : List Instance) → j + length xs ≤ most → Every (Lies now (now + 1) most) (sweep_log (now + 1) j xs)
 unfolding sweep_log

@@ -8,8 +8,9 @@ use Rattle.judging.specs.Asked.{asked, asked_by, declare_asked, frame_asked, sam
 use Rattle.record.specs.Marks as marks
 use Rattle.record.specs.Marks.{mark_of}
 use Rattle.record.specs.Numbers.{word}
-use Rattle.record.specs.declared.marks.Mark.TheVariants.{Bus, Declaration, Measurement, Time, Unknown}
+use Rattle.record.specs.declared.marks.Mark.TheVariants.{Bus, Declaration, Measurement, Time}
 use Rattle.record.specs.declared.marks.Mark.{Mark}
+use Rattle.std.proofs.Common.{None, Option, Some}
 use borrow.Author.Tests.{eqb-false, eqb-true, ne_eqb}
 use lib.Dec.{eqb}
 use lib.ListN.{length}
@@ -19,12 +20,12 @@ use mathlib.Core.Logic.{inl, inr}
 use mathlib.Core.Path.{refl, ◌∙◌, ◌≡◌}
 
 -- the mark at the front of `rest`, by its letters
-abbrev pub MarkIs : Mark → List ℕ → Type 0
-MarkIs Unknown rest = (IN rest → ⊥) × (LO rest → ⊥) × (IM rest → ⊥) × (SA rest → ⊥) × (FR rest → ⊥) × (TK rest → ⊥)
-MarkIs Declaration rest = Declaring rest
-MarkIs Measurement rest = SA rest
-MarkIs Bus rest = FR rest
-MarkIs Time rest = TK rest
+abbrev pub MarkIs : Option Mark → List ℕ → Type 0
+MarkIs None rest = (IN rest → ⊥) × (LO rest → ⊥) × (IM rest → ⊥) × (SA rest → ⊥) × (FR rest → ⊥) × (TK rest → ⊥)
+MarkIs (Some Declaration) rest = Declaring rest
+MarkIs (Some Measurement) rest = SA rest
+MarkIs (Some Bus) rest = FR rest
+MarkIs (Some Time) rest = TK rest
 
 module _ (rest : List ℕ) (l : 2 ≤ length rest) where
   pub mark_is : MarkIs (mark_of (word rest 0)) rest
@@ -36,7 +37,7 @@ module _ (rest : List ℕ) (l : 2 ≤ length rest) where
 
       go : (a : Bool) → eqb w marks.IN ≡ a → (o : Bool) → eqb w marks.LO ≡ o → (v : Bool) → eqb w marks.IM ≡ v
           → (b : Bool) → eqb w marks.SA ≡ b → (c : Bool) → eqb w marks.FR ≡ c → (d : Bool) → eqb w marks.TK ≡ d
-          → MarkIs (cond a Declaration (cond o Declaration (cond v Declaration (cond b Measurement (cond c Bus (cond d Time Unknown)))))) rest
+          → MarkIs (cond a (Some Declaration) (cond o (Some Declaration) (cond v (Some Declaration) (cond b (Some Measurement) (cond c (Some Bus) (cond d (Some Time) None)))))) rest
       go true e o i v j b f c g d h = inl (l, eqb-true w marks.IN e)
       go false e true i v j b f c g d h = inr (inl (l, eqb-true w marks.LO i))
       go false e false i true j b f c g d h = inr (inr (l, eqb-true w marks.IM j))
@@ -52,7 +53,7 @@ module _ (rest : List ℕ) (l : 2 ≤ length rest) where
         λ p. eqb-false w marks.TK h p.1,
       )
 
-  pub unknown_mark : MarkIs Unknown rest → mark_of (word rest 0) ≡ Unknown
+  pub unknown_mark : MarkIs None rest → mark_of (word rest 0) ≡ None
   unfolding mark_of
   unknown_mark (a, o, v, b, c, d) =
       rw (

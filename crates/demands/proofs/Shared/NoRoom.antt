@@ -10,6 +10,7 @@ use Rattle.judging.specs.declared.asked.Refusal.{Refusal}
 use Rattle.record.specs.Log.{Logged, bytes_of}
 use Rattle.session.proofs.Kept.{taken≢refused}
 use Rattle.session.specs.Session.{fits, refused, step}
+use Rattle.std.specs.Prelude.{Ok}
 use Rattle.ticks.specs.Tick.{tick_log}
 use borrow.Author.Tests.{le-leb, leb-false, lt-leb}
 use lib.ListN.{length}
@@ -36,7 +37,7 @@ roomy room log more n = le-leb (length (bytes_of more)) (room - length (bytes_of
 
 -- ---- an answer that is refused has no room
 pub full_answer : (first second third room : ℕ) (m : Model) (log : List Logged) {why : Refusal} {t : ℕ} {m' : Model} {log' : List Logged}
-    → step (Frame first second third) room m log ≡ refused why t m' log' → NoRoom room log (frame_log m first second third)
+    → step (Ok (Frame first second third)) room m log ≡ refused why t m' log' → NoRoom room log (frame_log m first second third)
 unfolding step
 full_answer first second third room m log {why} {t} {m'} {log'} e = go (fits room log (frame_log m first second third)) refl
   where

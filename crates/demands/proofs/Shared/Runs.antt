@@ -8,7 +8,7 @@ use Rattle.device.specs.Frame.{frame_log, frame_model}
 use Rattle.device.specs.declared.model.Model.{Model}
 use Rattle.judging.specs.Asked.{asked, size_of}
 use Rattle.judging.specs.Refusals.{number_of}
-use Rattle.judging.specs.declared.asked.Asked.TheVariants.{Declare, Frame, Hold, Refused, Ticks}
+use Rattle.judging.specs.declared.asked.Asked.TheVariants.{Declare, Frame, Hold, Ticks}
 use Rattle.judging.specs.declared.asked.Asked.{Asked}
 use Rattle.judging.specs.declared.asked.Refusal.{Refusal}
 use Rattle.record.proofs.Log.{bytes_append, decode_log}
@@ -16,6 +16,7 @@ use Rattle.record.specs.Log.{Logged, bytes_of, decoded}
 use Rattle.session.proofs.Kept.{Kept, part_left, refused_kept, same_left, taken_size, taken≢refused}
 use Rattle.session.proofs.Records.{ended}
 use Rattle.session.specs.Session.{End, fits, refused, session, step, taken, ticking}
+use Rattle.std.specs.Prelude.{Err, Ok, Result}
 use Rattle.ticks.specs.Tick.{tick_log, tick_model}
 use lib.ListN.{drop, length, length-drop, replicate}
 use mathlib.Core.Bool.{Bool, false, true}
@@ -60,17 +61,17 @@ comes_ticks (suc n) done room m log m' log' e =
         record { model = c.model; logged = sym (append_assoc log (tick_log m) (log_after (tick_model m) (replicate n tick))) ∙ c.logged }
     go false f ih = absurd (taken≢refused (sym (rw (f, ticking) at e)))
 
-pub comes_taken : (a : Asked) (room : ℕ) (m : Model) (log : List Logged) (m' : Model) (log' : List Logged) → step a room m log ≡ taken m' log'
+pub comes_taken : (a : Result Asked Refusal) (room : ℕ) (m : Model) (log : List Logged) (m' : Model) (log' : List Logged) → step a room m log ≡ taken m' log'
     → Comes m log (asks_for a) m' log'
 unfolding step model_after log_after
-comes_taken (Refused why) room m log m' log' e = absurd (taken≢refused (sym e))
-comes_taken (Declare sensor) room m log m' log' e =
+comes_taken (Err why) room m log m' log' e = absurd (taken≢refused (sym e))
+comes_taken (Ok (Declare sensor)) room m log m' log' e =
     let same : log ≡ log' = cc in
     record { model = cc; logged = append-nil log ∙ same }
-comes_taken (Hold i sample) room m log m' log' e =
+comes_taken (Ok (Hold i sample)) room m log m' log' e =
     let same : log ≡ log' = cc in
     record { model = cc; logged = append-nil log ∙ same }
-comes_taken (Frame first second third) room m log m' log' e = go (fits room log (frame_log m first second third)) refl
+comes_taken (Ok (Frame first second third)) room m log m' log' e = go (fits room log (frame_log m first second third)) refl
   where
     go : (b : Bool) → fits room log (frame_log m first second third) ≡ b → Comes m log (frame first second third ∷ []) m' log'
     go true f =
@@ -78,10 +79,10 @@ comes_taken (Frame first second third) room m log m' log' e = go (fits room log 
         let same : log ++ frame_log m first second third ≡ log' = cc in
         record { model = cc; logged = ap (λ l. log ++ l) (append-nil (frame_log m first second third)) ∙ same }
     go false f = absurd (taken≢refused (sym (rw (f, step) at e)))
-comes_taken (Ticks n) room m log m' log' e = comes_ticks n 0 room m log m' log' e
+comes_taken (Ok (Ticks n)) room m log m' log' e = comes_ticks n 0 room m log m' log' e
 
 -- of a refused record, the ticks that were carried out
-pub comes_refused : (a : Asked) (room : ℕ) (m : Model) (log : List Logged) (why : Refusal) (t : ℕ) (m' : Model) (log' : List Logged)
+pub comes_refused : (a : Result Asked Refusal) (room : ℕ) (m : Model) (log : List Logged) (why : Refusal) (t : ℕ) (m' : Model) (log' : List Logged)
     → step a room m log ≡ refused why t m' log'
     → Comes m log (replicate t tick) m' log'
 unfolding model_after log_after

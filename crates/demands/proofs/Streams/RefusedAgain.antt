@@ -8,12 +8,12 @@ use Rattle.device.specs.declared.model.Model.{Model}
 use Rattle.judging.proofs.Asking.{refused_still}
 use Rattle.judging.specs.Asked.{asked}
 use Rattle.judging.specs.Refusals.{number_of}
-use Rattle.judging.specs.declared.asked.Asked.TheVariants.{Refused}
 use Rattle.judging.specs.declared.asked.Refusal.TheVariants.{Full}
 use Rattle.judging.specs.declared.asked.Refusal.{Refusal}
 use Rattle.session.proofs.Kept.{refused_by}
 use Rattle.session.proofs.Records.{ended}
 use Rattle.session.specs.Session.{End, session, step}
+use Rattle.std.specs.Prelude.{Err}
 use Rattle.stream.proofs.AfterNumber.{not_after}
 use Rattle.stream.specs.Stream.{next_after, remaining, unread}
 use Rattle.stream.specs.declared.Next.TheVariants.{Over}
@@ -32,8 +32,8 @@ pub record Still (m : Model) (xs : List ℕ) (number : ℕ) : Type 0 where
   pub final : next_after number ≡ Over → (ys : List ℕ) (room : ℕ) → session m (xs ++ ys) room ≡ ended number 0 0 m []
 
 -- a record that is refused, and not by 9
-module _ (m : Model) (rest : List ℕ) (why : Refusal) (some : 0 < length rest) (e : asked rest m ≡ Refused why) where
-  refused_again : (ys : List ℕ) → asked (rest ++ ys) m ≡ Refused why → (room : ℕ) → session m (rest ++ ys) room ≡ ended (number_of why) 0 0 m []
+module _ (m : Model) (rest : List ℕ) (why : Refusal) (some : 0 < length rest) (e : asked rest m ≡ Err why) where
+  refused_again : (ys : List ℕ) → asked (rest ++ ys) m ≡ Err why → (room : ℕ) → session m (rest ++ ys) room ≡ ended (number_of why) 0 0 m []
   unfolding step
   refused_again ys f room = session_refused m (rest ++ ys) room (rw length-append (omega arith)) (ap (λ a. step a room m []) f)
 
@@ -84,7 +84,7 @@ module _ (m : Model) (xs : List ℕ) (room : ℕ) where
           go : LeftOff m xs room e → Still e.model (unread e xs) e.number
           go l = at (refused_by (asked rest l.model) room l.model l.log l.why e.ticks e.model e.log l.refuses)
             where
-              at : ((asked rest l.model ≡ Refused l.why) × (e.model ≡ l.model)) ⊎ (l.why ≡ Full) → Still e.model (unread e xs) e.number
+              at : ((asked rest l.model ≡ Err l.why) × (e.model ≡ l.model)) ⊎ (l.why ≡ Full) → Still e.model (unread e xs) e.number
               at (inl (a, same)) =
                   rw (unread_there (λ n. omega arith), l.numbered)
                   (still_refused e.model rest l.why (rw length-drop (omega (arith, offset_refused m xs room h))) (ap (asked rest) same ∙ a))

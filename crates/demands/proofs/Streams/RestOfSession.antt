@@ -20,6 +20,7 @@ use Rattle.session.proofs.Kept.{Kept, part_left, refused_kept, same_left}
 use Rattle.session.proofs.Records.{after_log, ended, step_behind}
 use Rattle.session.proofs.Room.{later, nothing_left, room_behind, roomier, size, ticked, ticking_later}
 use Rattle.session.specs.Session.{End, Step, refused, session, step, taken, ticking}
+use Rattle.std.specs.Prelude.{Ok}
 use Rattle.stream.proofs.TimeRecord.{remaining_ticks, time_asked}
 use Rattle.stream.specs.Stream.{remaining, unread}
 use lib.ListN.{drop, length, length-append}
@@ -64,7 +65,7 @@ module _ (m : Model) (xs ys : List ℕ) (room big t : ℕ) (m' : Model) (log : L
   abbrev j : ℕ
   j = n - suc t
 
-  here : asked xs m ≡ Ticks n
+  here : asked xs m ≡ Ok (Ticks n)
   here = as_ticks (asked xs m) (omega arith)
 
   sized : size_of (asked xs m) ≡ 4
@@ -74,16 +75,16 @@ module _ (m : Model) (xs ys : List ℕ) (room big t : ℕ) (m' : Model) (log : L
   long : mark_size Time ≤ length xs
   long = omega (arith, sized, asked_size xs m)
 
-  whole : asked (xs ++ ys) m ≡ Ticks n
+  whole : asked (xs ++ ys) m ≡ Ok (Ticks n)
   whole = alone xs m (omega (arith, sized)) (xs ++ ys) (extended (size_of (asked xs m)) xs ys (omega (arith, sized, long))) ∙ here
 
-  others : asked ((ticks j ++ drop (mark_size Time) xs) ++ ys) m' ≡ Ticks j
+  others : asked ((ticks j ++ drop (mark_size Time) xs) ++ ys) m' ≡ Ok (Ticks j)
   others =
       let k = ticked (suc t) 0 room big m [] m' log stand in
       time_asked j (drop (mark_size Time) xs ++ ys) m' (omega arith) (omega (arith, k.rise, time_left xs m))
       (omega (arith, k.rise, k.last, last_left xs m (omega arith)))
 
-  steps : step (Ticks n) big m [] ≡ later (suc t) (after_log log (step (Ticks j) (big - size log) m' []))
+  steps : step (Ok (Ticks n)) big m [] ≡ later (suc t) (after_log log (step (Ok (Ticks j)) (big - size log) m' []))
   unfolding step
   steps =
       let all : n ≡ suc t + j = omega arith in
@@ -91,7 +92,7 @@ module _ (m : Model) (xs ys : List ℕ) (room big t : ℕ) (m' : Model) (log : L
       ∙ (ticked (suc t) 0 room big m [] m' log stand).onward enough j
       ∙ ap (λ i. ticking j i big m' log) (zero-add (suc t) ∙ sym (add-zero (suc t)))
       ∙ ticking_later (suc t) j 0 big m' log
-      ∙ ap (later (suc t)) (ap (ticking j 0 big m') (sym (append-nil log)) ∙ step_behind big log (Ticks j) m' [])
+      ∙ ap (later (suc t)) (ap (ticking j 0 big m') (sym (append-nil log)) ∙ step_behind big log (Ok (Ticks j)) m' [])
 
   rest_onward : untimed (session m (xs ++ ys) big) ≡ untimed (behind 0 log (session m' (remaining (suc t) xs ++ ys) (big - size log)))
   unfolding size_of
@@ -100,7 +101,7 @@ module _ (m : Model) (xs ys : List ℕ) (room big t : ℕ) (m' : Model) (log : L
       (session_from m (xs ++ ys) big (rw length-append (omega (arith, long)))
       ∙ ap (λ a. from (size_of a) (drop (size_of a) (xs ++ ys)) big (step a big m [])) whole
       ∙ ap₂ (λ l o. from 4 l big o) (drop-append-le 4 xs ys long) steps)
-      ∙ from_later (suc t) (mark_size Time) (drop (mark_size Time) xs ++ ys) big log (step (Ticks j) (big - size log) m' [])
+      ∙ from_later (suc t) (mark_size Time) (drop (mark_size Time) xs ++ ys) big log (step (Ok (Ticks j)) (big - size log) m' [])
       ∙ ap (λ e. untimed (behind 0 log e))
       (sym
       (ap (λ l. session m' (l ++ ys) (big - size log)) (remaining_ticks m xs t fewer)

@@ -15,13 +15,14 @@ use Rattle.device.specs.declared.model.Model.{Model}
 use Rattle.judging.proofs.Asking.{by_kinds, count_of, ticks_of}
 use Rattle.judging.specs.Asked.{asked}
 use Rattle.judging.specs.Refusals.{number_of}
-use Rattle.judging.specs.declared.asked.Asked.TheVariants.{Frame, Refused, Ticks}
+use Rattle.judging.specs.declared.asked.Asked.TheVariants.{Frame, Ticks}
 use Rattle.judging.specs.declared.asked.Refusal.{Refusal}
 use Rattle.record.specs.Log.{Logged}
 use Rattle.record.specs.Numbers.{byte, word}
 use Rattle.session.proofs.Kept.{part_left, refused_kept, taken_size, taken≢refused}
 use Rattle.session.proofs.Room.{nothing_left}
 use Rattle.session.specs.Session.{Step, refused, session, step, taken}
+use Rattle.std.specs.Prelude.{Err, Ok}
 use Rattle.stream.proofs.AfterNumber.{after_emptied}
 use Rattle.stream.proofs.Moves.{unread_long}
 use Rattle.stream.proofs.TimeRecord.{count, remaining_ticks}
@@ -50,13 +51,13 @@ module _ (m : Model) (xs : List ℕ) (room : ℕ) (few : length m.instances ≤ 
       by_kinds (λ a. step a room m [] ≡ refused why t m' log → number_of why ≡ 9 → 0 < t) xs m refuse
       (λ sensor e n. absurd (taken≢refused e)) (λ e n. absurd (taken≢refused e)) (answer (byte xs 2) (byte xs 3) (byte xs 4)) (λ h k e n. tick_some (word xs 2) e)
     where
-      refuse : (w : Refusal) → number_of w ≢ 9 → step (Refused w) room m [] ≡ refused why t m' log → number_of why ≡ 9 → 0 < t
+      refuse : (w : Refusal) → number_of w ≢ 9 → step (Err w) room m [] ≡ refused why t m' log → number_of why ≡ 9 → 0 < t
       refuse w other e n = let same : w ≡ why = cc in absurd (other (ap number_of same ∙ n))
 
-      answer : (a b c : ℕ) → step (Frame a b c) room m [] ≡ refused why t m' log → number_of why ≡ 9 → 0 < t
+      answer : (a b c : ℕ) → step (Ok (Frame a b c)) room m [] ≡ refused why t m' log → number_of why ≡ 9 → 0 < t
       answer a b c e n = absurd (omega (arith, full_answer a b c room m [] e, frame_most m a b c, nothing_left room))
 
-      tick_some : (n : ℕ) → step (Ticks n) room m [] ≡ refused why t m' log → 0 < t
+      tick_some : (n : ℕ) → step (Ok (Ticks n)) room m [] ≡ refused why t m' log → 0 < t
       tick_some n e = by t (tick_of_nine n room m [] e).2
         where
           by : (t : ℕ) → NoRoomAfter t room m [] → 0 < t

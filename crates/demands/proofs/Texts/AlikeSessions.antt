@@ -9,20 +9,20 @@ use Rattle.device.specs.Frame.{frame_log, frame_model}
 use Rattle.device.specs.declared.model.Model.{Model}
 use Rattle.judging.specs.Asked.{asked, asked_by, declare_asked, declared_in, frame_asked, sample_asked, sample_in, sensor_asked, size_of, ticks_asked}
 use Rattle.judging.specs.Refusals.{number_of}
-use Rattle.judging.specs.declared.asked.Asked.TheVariants.{Declare, Frame, Hold, Refused, Ticks}
+use Rattle.judging.specs.declared.asked.Asked.TheVariants.{Declare, Frame, Hold, Ticks}
 use Rattle.judging.specs.declared.asked.Asked.{Asked}
 use Rattle.judging.specs.declared.asked.Refusal.TheVariants.{BadSample, Cut, Full, NotReadyAgain, Undeclared}
 use Rattle.judging.specs.declared.asked.Refusal.{Refusal}
-use Rattle.judging.specs.declared.declaring.Declares.TheVariants.{Nothing, One}
-use Rattle.judging.specs.declared.declaring.Declares.{Declares}
 use Rattle.record.specs.Log.{Logged}
 use Rattle.record.specs.Marks.{mark_of, mark_size}
 use Rattle.record.specs.Numbers.{byte, word}
-use Rattle.record.specs.declared.marks.Mark.TheVariants.{Bus, Declaration, Measurement, Time, Unknown}
+use Rattle.record.specs.declared.marks.Mark.TheVariants.{Bus, Declaration, Measurement, Time}
 use Rattle.record.specs.declared.marks.Mark.{Mark}
 use Rattle.sensor.proofs.Texts.{allows_as}
 use Rattle.sensor.specs.Tick.{goes_back}
+use Rattle.sensor.specs.declared.sensors.Sensor.{Sensor}
 use Rattle.session.specs.Session.{End, Step, fits, reading, refused, session, step, taken, ticking}
+use Rattle.std.specs.Prelude.{Err, Ok, Result, None, Option, Some}
 use Rattle.ticks.specs.Tick.{tick_log, tick_model}
 use lib.Dec.{eqb, ltb}
 use lib.ListN.{drop, length}
@@ -32,53 +32,53 @@ use mathlib.Core.Path.{ap, refl, subst, sym, ◌∙◌, ◌≡◌}
 
 -- ---- what a record asks for does not go by the text
 module _ (rest : List ℕ) (m : Model) where
-  by_mark : (k : Mark) → asked_by k rest (model_as_in m) ≡ asked_by k rest m
+  by_mark : (k : Option Mark) → asked_by k rest (model_as_in m) ≡ asked_by k rest m
   unfolding asked_by declare_asked sample_asked ticks_asked allowed known goes_back
-  by_mark Unknown = refl
-  by_mark Declaration = refl
-  by_mark Measurement = rw (at_as m (byte rest 2), allows_as (instance_at m (byte rest 2)).kind (sample_in rest))
-  by_mark Bus = refl
-  by_mark Time = refl
+  by_mark None = refl
+  by_mark (Some Declaration) = refl
+  by_mark (Some Measurement) = rw (at_as m (byte rest 2), allows_as (instance_at m (byte rest 2)).kind (sample_in rest))
+  by_mark (Some Bus) = refl
+  by_mark (Some Time) = refl
 
   asked_as : asked rest (model_as_in m) ≡ asked rest m
   unfolding asked
-  asked_as = ap (cond (ltb (length rest) 2) (Refused Cut)) (by_mark (mark_of (word rest 0)))
+  asked_as = ap (cond (ltb (length rest) 2) (Err Cut)) (by_mark (mark_of (word rest 0)))
 
 -- a sample that is to be held is one that is allowed
-abbrev Held : Model → Asked → Type 0
-Held m (Refused why) = Unit {0}
-Held m (Declare sensor) = Unit {0}
-Held m (Hold i sample) = allowed m i sample ≡ true
-Held m (Frame first second third) = Unit {0}
-Held m (Ticks n) = Unit {0}
+abbrev Held : Model → Result Asked Refusal → Type 0
+Held m (Err why) = Unit {0}
+Held m (Ok (Declare sensor)) = Unit {0}
+Held m (Ok (Hold i sample)) = allowed m i sample ≡ true
+Held m (Ok (Frame first second third)) = Unit {0}
+Held m (Ok (Ticks n)) = Unit {0}
 
 module _ (rest : List ℕ) (m : Model) where
-  held_or : (b : Bool) (x y : Asked) → Held m x → Held m y → Held m (cond b x y)
+  held_or : (b : Bool) (x y : Result Asked Refusal) → Held m x → Held m y → Held m (cond b x y)
   held_or true x y p q = p
   held_or false x y p q = q
 
-  held_sensor : (d : Declares) → Held m (sensor_asked d)
-  held_sensor Nothing = tt
-  held_sensor (One sensor) = tt
+  held_sensor : (d : Option Sensor) → Held m (sensor_asked d)
+  held_sensor None = tt
+  held_sensor (Some sensor) = tt
 
   held_sample : (b c d : Bool) → allowed m (byte rest 2) (sample_in rest) ≡ c
-      → Held m (cond b (cond c (cond d (Refused NotReadyAgain) (Hold (byte rest 2) (sample_in rest))) (Refused BadSample)) (Refused Undeclared))
+      → Held m (cond b (cond c (cond d (Err NotReadyAgain) (Ok (Hold (byte rest 2) (sample_in rest)))) (Err BadSample)) (Err Undeclared))
   held_sample false c d e = tt
   held_sample true false d e = tt
   held_sample true true true e = tt
   held_sample true true false e = e
 
-  held_by : (k : Mark) → Held m (asked_by k rest m)
+  held_by : (k : Option Mark) → Held m (asked_by k rest m)
   unfolding asked_by declare_asked sample_asked frame_asked ticks_asked
-  held_by Unknown = tt
-  held_by Declaration =
+  held_by None = tt
+  held_by (Some Declaration) =
       held_or (ltb (length rest) (mark_size Declaration)) _ _ tt
       (held_or (m.running || not (eqb (byte rest 2) m.declared)) _ _ tt (held_or (ltb (byte rest 2) 16) _ _ (held_sensor (declared_in rest)) tt))
-  held_by Measurement =
+  held_by (Some Measurement) =
       held_or (ltb (length rest) (mark_size Measurement)) _ _ tt
       (held_sample (known m (byte rest 2)) (allowed m (byte rest 2) (sample_in rest)) (goes_back (instance_at m (byte rest 2)) (sample_in rest)) refl)
-  held_by Bus = held_or (ltb (length rest) (mark_size Bus)) _ _ tt tt
-  held_by Time =
+  held_by (Some Bus) = held_or (ltb (length rest) (mark_size Bus)) _ _ tt tt
+  held_by (Some Time) =
       held_or (ltb (length rest) (mark_size Time)) _ _ tt
       (held_or (eqb (word rest 2) 0) _ _ tt
       (held_or (ltb (4294967295 - m.tick) (word rest 2)) _ _ tt (held_or (ltb m.last (m.tick + word rest 2)) _ _ tt tt)))
@@ -113,14 +113,14 @@ module _ (room : ℕ) where
       go false ih = both_refused a
 
   -- what is asked for is held, if it is a sample, in both
-  pub step_alike : (a : Asked) {m m' : Model} (log : List Logged) → Alike m m' → Held m a → Held m' a → Steps (step a room m log) (step a room m' log)
+  pub step_alike : (a : Result Asked Refusal) {m m' : Model} (log : List Logged) → Alike m m' → Held m a → Held m' a → Steps (step a room m log) (step a room m' log)
   unfolding step
-  step_alike (Refused why) log a h h' = both_refused a
-  step_alike (Declare sensor) log a h h' = both_taken (alike_declared a sensor sensor refl)
-  step_alike (Hold i sample) log a h h' = both_taken (alike_held a i sample h h')
-  step_alike (Ticks n) log a h h' = ticking_alike n 0 log a
-  step_alike (Frame first second third) {m} {m'} log a h h' =
-      subst (λ more. Steps (step (Frame first second third) room m log) (next' more)) (same_frame_log a first second third) (go (fits room log (frame_log m first second third)))
+  step_alike (Err why) log a h h' = both_refused a
+  step_alike (Ok (Declare sensor)) log a h h' = both_taken (alike_declared a sensor sensor refl)
+  step_alike (Ok (Hold i sample)) log a h h' = both_taken (alike_held a i sample h h')
+  step_alike (Ok (Ticks n)) log a h h' = ticking_alike n 0 log a
+  step_alike (Ok (Frame first second third)) {m} {m'} log a h h' =
+      subst (λ more. Steps (step (Ok (Frame first second third)) room m log) (next' more)) (same_frame_log a first second third) (go (fits room log (frame_log m first second third)))
     where
       next' : List Logged → Step
       next' more = elim (fits room log more) [ true ↦ taken (frame_model m' first second third) (log ++ more) | false ↦ refused Full 0 m' log ]
@@ -146,7 +146,7 @@ reading_alike (suc most) (b ∷ rest) room at {m} {m'} log a =
     same : asked (b ∷ rest) m ≡ asked (b ∷ rest) m'
     same = same_asked (b ∷ rest) a
 
-    goes : Asked → Step → End
+    goes : Result Asked Refusal → Step → End
     goes x s =
         elim s [
           | taken k log' ↦ reading most (drop (size_of x) (b ∷ rest)) room (at + size_of x) k log'

@@ -12,11 +12,10 @@ use Rattle.device.specs.declared.model.Model.{Model}
 use Rattle.judging.specs.Asked.{asked, declare_asked, sensor_asked, size_of}
 use Rattle.judging.specs.Declaring.{declared_by, in_declares, light_has, lo_declares}
 use Rattle.judging.specs.Refusals.{number_of}
-use Rattle.judging.specs.declared.asked.Asked.TheVariants.{Declare, Refused}
+use Rattle.judging.specs.declared.asked.Asked.TheVariants.{Declare}
 use Rattle.judging.specs.declared.asked.Asked.{Asked}
 use Rattle.judging.specs.declared.asked.Refusal.TheVariants.{Cut, LateOrSkipped, NoSuchSensor}
 use Rattle.judging.specs.declared.asked.Refusal.{Refusal}
-use Rattle.judging.specs.declared.declaring.Declares.TheVariants.{Nothing, One}
 use Rattle.record.specs.Log.{bytes_of}
 use Rattle.record.specs.Marks.{IN, LO, mark_size}
 use Rattle.record.specs.declared.marks.Mark.TheVariants.{Declaration}
@@ -26,6 +25,7 @@ use Rattle.sensor.specs.Text.{as_in, whole_bytes}
 use Rattle.sensor.specs.declared.sensors.Sensor.TheVariants.{Light, LightOf2017, Occupancy}
 use Rattle.sensor.specs.declared.sensors.Sensor.{Sensor}
 use Rattle.session.specs.Session.{session, step}
+use Rattle.std.specs.Prelude.{Err, Ok, Result, None, Some}
 use borrow.Author.Tests.{eqb-true, ne_eqb}
 use lib.Dec.{eqb, ltb}
 use lib.ListN.{drop, length}
@@ -36,17 +36,17 @@ use mathlib.Core.Path.{ap, refl, subst₂, sym, ◌∙◌, ◌≡◌}
 use native.Mathlib.Omega.{arith}
 
 -- both are refused by one number, or both declare what differs in the text alone
-data Both : Asked → Asked → Type 0 where
-  refuse : (why : Refusal) → Both (Refused why) (Refused why)
-  declare : (s s' : Sensor) → as_in (declared s) ≡ as_in (declared s') → Both (Declare s) (Declare s')
+data Both : Result Asked Refusal → Result Asked Refusal → Type 0 where
+  refuse : (why : Refusal) → Both (Err why) (Err why)
+  declare : (s s' : Sensor) → as_in (declared s) ≡ as_in (declared s') → Both (Ok (Declare s)) (Ok (Declare s'))
 
 -- the rest of a session whose first record declares, and one whose first record is refused
-read_declared : (m : Model) (xs : List ℕ) (room : ℕ) (s : Sensor) → 0 < length xs → asked xs m ≡ Declare s
+read_declared : (m : Model) (xs : List ℕ) (room : ℕ) (s : Sensor) → 0 < length xs → asked xs m ≡ Ok (Declare s)
     → session m xs room ≡ behind (mark_size Declaration) [] (session (declared_model m s) (drop (mark_size Declaration) xs) (room - length (bytes_of [])))
 unfolding step size_of
 read_declared m xs room s h e = session_taken m xs room h (ap (λ a. step a room m []) e) ∙ rw e
 
-read_refused : (m : Model) (xs : List ℕ) (room : ℕ) (why : Refusal) → 0 < length xs → asked xs m ≡ Refused why
+read_refused : (m : Model) (xs : List ℕ) (room : ℕ) (why : Refusal) → 0 < length xs → asked xs m ≡ Err why
     → session m xs room ≡ record { model = m; number = number_of why; offset = 0; ticks = 0; log = [] }
 unfolding step
 read_refused m xs room why h e = session_refused m xs room h (ap (λ a. step a room m []) e)
@@ -67,7 +67,7 @@ module _ (r : ℕ) (whole : whole_bytes r ≡ true) where
   both_declare type other = rw (not_two, ne_eqb type 5 other) (go (eqb type 3) (eqb type 4 && light_has r))
     where
       go : (a b : Bool)
-          → Both (sensor_asked (cond b (One (LightOf2017 r)) Nothing)) (sensor_asked (cond (a && false) (One Occupancy) (cond b (One (Light r)) Nothing)))
+          → Both (sensor_asked (cond b (Some (LightOf2017 r)) None)) (sensor_asked (cond (a && false) (Some Occupancy) (cond b (Some (Light r)) None)))
       go true true = declare (LightOf2017 r) (Light r) (declared_as r whole)
       go true false = refuse NoSuchSensor
       go false true = declare (LightOf2017 r) (Light r) (declared_as r whole)
@@ -88,8 +88,8 @@ module _ (r : ℕ) (whole : whole_bytes r ≡ true) where
       where
         go : (a b c : Bool)
             → Both
-            (cond a (Refused Cut) (cond b (Refused LateOrSkipped) (cond c (sensor_asked (declared_by LO type r)) (Refused NoSuchSensor))))
-            (cond a (Refused Cut) (cond b (Refused LateOrSkipped) (cond c (sensor_asked (declared_by IN type r)) (Refused NoSuchSensor))))
+            (cond a (Err Cut) (cond b (Err LateOrSkipped) (cond c (sensor_asked (declared_by LO type r)) (Err NoSuchSensor))))
+            (cond a (Err Cut) (cond b (Err LateOrSkipped) (cond c (sensor_asked (declared_by IN type r)) (Err NoSuchSensor))))
         go true b c = refuse Cut
         go false true c = refuse LateOrSkipped
         go false false true = both_declare type other
@@ -101,7 +101,7 @@ module _ (r : ℕ) (whole : whole_bytes r ≡ true) where
         alike : Alike m m
         alike = record { same = refl; range = range; range' = range }
 
-        go : {a b : Asked} → Both a b → asked lo m ≡ a → asked in' m ≡ b → Same (session m lo room) (session m in' room)
+        go : {a b : Result Asked Refusal} → Both a b → asked lo m ≡ a → asked in' m ≡ b → Same (session m lo room) (session m in' room)
         go (refuse why) e f =
             subst₂ Same (sym (read_refused m lo room why (omega arith) e)) (sym (read_refused m in' room why (omega arith) f))
             (record { number = refl; offset = refl; ticks = refl; log = refl; models = alike })

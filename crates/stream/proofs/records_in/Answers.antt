@@ -1,23 +1,18 @@
--- `stream::records_in` meets its contract: the records that end at `at` are records_in, and the rest from there.
+-- `stream::records_in` meets its contract.
 -- Assumes nothing.
-use Rattle.std.proofs.Common.{arith}
-use Rattle.stream.proofs.Records.{counting_done, counting_more, counting_start}
+use Rattle.std.proofs.Common.{◌<◌, length, arith}
+use Rattle.std.proofs.lemmas.Bool.Decides.{nat_tests}
+use Rattle.stream.proofs.Records.{counting_done, counting_more, counting_start, left_less}
 use Rattle.stream.proofs.records_in.Goals as goal
 
-pub loop-at-init : goal.loop-at-init
-loop-at-init c = counting_start c.args.bytes.now
+pub loop-rest-init : goal.loop-rest-init
+loop-rest-init c = counting_start _
 
-pub overflow_add-at : goal.overflow_add-at
-overflow_add-at c = omega (arith, (counting_more c.loop-at.invariant c.loop-at-test.true c.size_at-size.ensures).0)
+pub loop-rest-smaller : goal.loop-rest-smaller
+loop-rest-smaller c = let some : 0 < length c.loop-rest.rest.now = grind (arith, nat_tests) in left_less _ some c.size_at.ensures
 
-pub overflow_add-n : goal.overflow_add-n
-overflow_add-n c = omega (arith, (counting_more c.loop-at.invariant c.loop-at-test.true c.size_at-size.ensures).0)
-
-pub loop-at-smaller : goal.loop-at-smaller
-loop-at-smaller c = omega (arith, (counting_more c.loop-at.invariant c.loop-at-test.true c.size_at-size.ensures).0)
-
-pub loop-at-preserved : goal.loop-at-preserved
-loop-at-preserved c = (counting_more c.loop-at.invariant c.loop-at-test.true c.size_at-size.ensures).1
+pub loop-rest-preserved : goal.loop-rest-preserved
+loop-rest-preserved c = let some : 0 < length c.loop-rest.rest.now = grind (arith, nat_tests) in counting_more c.loop-rest.invariant some c.size_at.ensures
 
 pub returns : goal.returns
-returns c = counting_done c.loop-at.invariant c.loop-at-test.false
+returns c = counting_done c.loop-rest.invariant (grind (arith, nat_tests))

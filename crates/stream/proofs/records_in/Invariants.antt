@@ -1,11 +1,11 @@
--- `stream::records_in` meets its contract: the records that end at `at` are records_in, and the rest from there.
+-- `stream::records_in` meets its contract: what is left has the records that are not counted yet.
 -- Assumes nothing.
-use Rattle.std.proofs.Common.{◌-◌, length}
+use Rattle.std.proofs.Common.{length}
 use Rattle.stream.proofs.Records.{Counting}
 use Rattle.stream.proofs.records_in.Given as goal
 
-abbrev pub invariant-loop-at : goal.invariant-loop-at
-invariant-loop-at l = Counting l.bytes l.at l.n
+abbrev pub invariant-loop-rest : goal.invariant-loop-rest
+invariant-loop-rest l = Counting l.bytes l.rest l.n
 
-abbrev pub decreases-loop-at : goal.decreases-loop-at
-decreases-loop-at l = length l.bytes - l.at
+abbrev pub decreases-loop-rest : goal.decreases-loop-rest
+decreases-loop-rest l = length l.rest

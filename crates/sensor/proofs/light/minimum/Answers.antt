@@ -1,23 +1,26 @@
--- `sensor::light::minimum` meets its contract: below 15 the power fits, and from 15 on its hundredth is above 255.
+-- `sensor::light::minimum` meets its contract: up to 15 the power fits, and from 15 on its hundredth is above 255.
 -- Assumes nothing.
-use Prim.Native.Nat.{ℕ, ◌%◌, ◌*◌, ◌/◌, ◌<◌, ◌≤◌, ◌^◌, min}
+use Prim.Native.Nat.{ℕ, ◌%◌, ◌*◌, ◌/◌, ◌≤◌, ◌^◌, min}
 use Rattle.sensor.specs.Light.{minimum}
 use lib.Pow.{pow_mono}
 use mathlib.Core.Path.{◌≡◌}
+use native.Mathlib.Decide.{dec_le}
 use native.Mathlib.Omega.{arith}
 use Rattle.sensor.proofs.light.minimum.Goals as goal
 
--- below 15 the power fits, and its hundredth is below 256
-small : (r : ℕ) → r < 15 → (1 * 2 ^ r % 2 ^ 32 / 100 < 2 ^ 8) × (1 * 2 ^ r % 2 ^ 32 / 100 ≡ min 255 (2 ^ r / 100))
-small r h = let p : 2 ^ r ≤ 2 ^ 14 = pow_mono {j = 14} (omega arith) in (omega arith, omega arith)
+capped : (r : ℕ) → min (1 * 2 ^ min r 15 % 2 ^ 32 / 100) 255 ≡ min 255 (2 ^ r / 100)
+capped r = go (dec_le r 15)
+  where
+    go : Dec (r ≤ 15) → min (1 * 2 ^ min r 15 % 2 ^ 32 / 100) 255 ≡ min 255 (2 ^ r / 100)
+    go (yes h) =
+        let small : 2 ^ r ≤ 2 ^ 15 = pow_mono {j = 15} h in
+        let same : min r 15 ≡ r = omega arith in
+        rw same (omega (arith, small))
+    go (no h) =
+        let large : 2 ^ 15 ≤ 2 ^ r = pow_mono {i = 15} (omega arith) in
+        let same : min r 15 ≡ 15 = omega arith in
+        rw same (omega (arith, large))
 
-pub overflow_cast-result : goal.overflow_cast-result
-overflow_cast-result c = record { fits = (small c.args.resolution (omega arith)).0 }
-
-pub returns-then-resolution-lt15 : goal.returns-then-resolution-lt15
+pub returns : goal.returns
 unfolding minimum
-returns-then-resolution-lt15 c = (small c.args.resolution (omega arith)).1
-
-pub returns-else-resolution-lt15 : goal.returns-else-resolution-lt15
-unfolding minimum
-returns-else-resolution-lt15 c = omega (arith, pow_mono {i = 15} {j = c.args.resolution} (omega arith))
+returns c = rw (c.min-2.ensures, c.min.ensures) (capped c.args.resolution)
