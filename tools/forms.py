@@ -1,8 +1,8 @@
 #!/usr/bin/env python3
-"""Lists the older forms that stand in crates/*/src, for docs/DESIGN-PASS.md: `tools/forms.py [POINT]`, at the top of a checkout.
+"""Lists the older forms that stand in crates/*/src: `tools/forms.py [POINT]`, at the top of a checkout.
 
-A line for each place, FILE:LINE NAME, under the number of its point, and at the end the count of each. It reads text, and no types: what it
-names is to be judged by a reader, and docs/DESIGN-PASS.md does."""
+A line for each place, FILE:LINE NAME, under the number of its point, and at the end the count of each. It reads text,
+and no types: what it names is to be judged by a reader, and docs/DESIGN-PASS.md does."""
 import collections, glob, re, sys
 
 INT = r'(?:u8|u16|u32|u64|usize|i32|i64)'
@@ -19,7 +19,7 @@ def code_of(text):
 
 
 def blocks(lines, opens):
-    """Each item that begins with a line of that form: its first line, its name, and its lines up to the brace that closes it."""
+    """Each item that begins with a line of that form: its first line, its name, and its lines up to its closing brace."""
     for i, line in enumerate(lines):
         found = re.match(opens, line)
         if not found:
@@ -76,7 +76,7 @@ shapes = collections.defaultdict(list)
 facts = collections.defaultdict(list)
 together = collections.defaultdict(list)
 NONE = r'(Nothing|None|Unknown|Unseen|Missing|Nobody|Refused)\b'
-CODES = r'(number|said|fits|found|failed|ended|more|unread|unwritten|all|types|clock|other_make|records_failed)'
+CODES = r'(number|said|fits|found|failed|ended|more|unread|unwritten|all|types|clock|other_make)'
 
 for file in sorted(glob.glob('crates/*/src/*.rt')):
     lines = code_of(open(file).read())
