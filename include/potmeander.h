@@ -14,14 +14,16 @@
  *
  * 1. THE ARCHIVES
  *
- * `.ci/archive session` proves the library and makes target/staticlib/libsession.a, for x86-64 (System V ABI), with one exported function:
- * `cc controller.c libsession.a`. `.ci/archive compare` makes libcompare.a likewise, with potmeander_compare, `.ci/archive hours` libhours.a with
- * potmeander_hours and potmeander_hour, and `.ci/archive tabled` libtabled.a with potmeander_session_hours; each serves without the others, and all
- * together. Of a C library the first two need nothing, and the other two memset. They have no variables: nothing is kept from
- * one call to the next, and calls in several threads do not know of each other, as long as they share nothing that is written. They allocate nothing. A
- * call uses less than 8 KiB of stack (2,904 bytes were measured), beside what a memset that is bound at its first call takes there. A tick took about a
- * microsecond where 16 instances send, and in a long TK about a thousandth of that where none does, with the older kit (docs/COST.md). The header serves
- * C99 and later, and C++.
+ * `.ci/archive session` proves the library and makes target/staticlib/libsession.a, for x86-64 (System V ABI), with
+ * one exported function: `cc controller.c libsession.a`. `.ci/archive compare` makes libcompare.a likewise, with
+ * potmeander_compare, `.ci/archive hours` libhours.a with potmeander_hours and potmeander_hour, and `.ci/archive
+ * tabled` libtabled.a with potmeander_session_hours; each serves without the others, and all together. Of a C library
+ * the first two need nothing, and the other two memset. They have no variables: nothing is kept from one call to the
+ * next, and calls in several threads do not know of each other, as long as they share nothing that is written. They
+ * allocate nothing. A call uses less than 8 KiB of stack (2,904 bytes were measured), beside what a memset that is
+ * bound at its first call takes there. A tick took about a microsecond where 16 instances send, and in a long TK
+ * about a thousandth of that where none does, with the older kit (docs/COST.md). The header serves C99 and later, and
+ * C++.
  *
  *
  * 2. A SESSION
