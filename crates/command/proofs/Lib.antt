@@ -1,3 +1,4 @@
+mod Rest
 mod Variables
 pub mod Laws
 pub mod Freed
