@@ -115,7 +115,16 @@ edited $timers '/pub fn dead_time/,/^    {/ { /ensures/d; }' 'timers::Rules::dea
 edited $widen 's/^pub fn mask/fn mask/' 'widen::mask: exported, and found in 0 places of the sources'
 edited crates/device/src/pairs.rt 's/^#\[derive(Clone, Copy, PartialEq, Eq)\]/#[derive(Clone, Copy)]/' \
     'device::pairs::FramePartialEq::eq: exported, and found in 0 places of the sources'
+edited crates/device/src/pairs.rt 's/^#\[derive(Clone, Copy, PartialEq, Eq)\]/&\
+struct Inner;\
+\
+#[derive(Clone, Copy)]/' 'device::pairs::FramePartialEq::eq: exported, and found in 0 places of the sources'
 edited crates/hours/src/records.rt 's/^pub(crate) struct/pub struct/' 'hours::records::RecordsIterator::next: exported, and found in 0 places of the sources'
+# nor where another file has an inner type of that name
+cp "$copy/crates/hours/src/table.rt" "$scratch/table.rt"
+printf '\nstruct Records;\n' >>"$copy/crates/hours/src/table.rt"
+edited crates/hours/src/records.rt 's/^pub(crate) struct/pub struct/' 'hours::records::RecordsIterator::next: exported, and found in 0 places of the sources'
+cp "$scratch/table.rt" "$copy/crates/hours/src/table.rt"
 edited $widen 's/^    ensures/  ensures/' 'a source is not in the layout'
 
 # ---- archives

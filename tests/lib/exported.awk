@@ -10,6 +10,10 @@ NR == FNR {
 FNR == 1 {
     split(FILENAME, folder, "/")
     crate = folder[2]
+    module = folder[4]
+    sub(/[.]rt$/, "", module)
+    here = crate " " (module == "lib" ? "" : module) " "
+    derived = ""
 }
 
 /^impl/ {
@@ -20,12 +24,23 @@ FNR == 1 {
 
 /^}/ { self = "" }
 
-# A type that is not `pub` is no other crate's, and what a trait gives it is not exported, though the checker lists it.
-/^(pub\([a-z]+\) )?(struct|enum) / {
+# A type that is not `pub` is no other crate's, and what a trait gives it, in the file that has it, is not exported,
+# though the checker lists it. What a derive writes is a function too: `==` of the `pub` type below it, with the promise
+# of its trait.
+/^#\[derive\(.*PartialEq/ { derived = "PartialEq.eq" }
+
+/^(pub(\([^)]*\))? )?(struct|enum) / {
     type = $0
     sub(/^.*(struct|enum) /, "", type)
     sub(/[^A-Za-z_0-9].*/, "", type)
-    inner[crate " " type] = 1
+    if (!/^pub (struct|enum) /) {
+        inner[here type] = 1
+    } else if (derived) {
+        found[here type derived]++
+        ensures[here type derived]++
+        lent[here type derived] += 0
+    }
+    derived = ""
 }
 
 /^impl.* for / {
@@ -35,19 +50,7 @@ FNR == 1 {
     sub(/^impl(<[^>]*>)? /, "", trait)
     sub(/ for .*/, "", trait)
     gsub(/[<>]/, "", trait)
-    given[crate " " type trait] = crate " " type
-}
-
-# What a derive writes is a function too: `==` of the type below it, with the promise of its trait.
-/^#\[derive\(.*PartialEq/ { derived = "PartialEq.eq" }
-
-derived && /^pub (struct|enum) / {
-    sub(/[^A-Za-z_0-9].*/, "", $3)
-    f = crate " " $3 derived
-    found[f]++
-    ensures[f]++
-    lent[f] += 0
-    derived = ""
+    given[here type trait] = here type
 }
 
 /^ *pub (extern "C" )?fn / {
@@ -74,8 +77,11 @@ END {
     for (i = 1; i <= count; i++) {
         n = split(listed[i], step, /[ .]/)
         f = step[1] " " (step[n - 1] ~ /^[A-Z]/ ? step[n - 1] "." : "") step[n]
-        if (given[step[1] " " step[n - 1]] in inner)
+        at = step[1] " " (n > 4 ? "?" : n > 3 ? step[2] : "") " " step[n - 1]
+        if (given[at] in inner)
             continue
+        if (at "." step[n] in found)
+            f = at "." step[n]
         said = listed[i]
         gsub(/[ .]/, "::", said)
         if (found[f] != 1)
